@@ -1,5 +1,6 @@
 """What the tests of the tools have in common: files, a tool's outcome, and the programs that are asked."""
 
+import contextlib
 import io
 import os
 import pathlib
@@ -9,6 +10,7 @@ import tempfile
 import unittest
 from types import ModuleType
 
+from overlayd import cli
 from overlayd.program import Layer, Reply, lines_after
 from overlayd.store.layers import Columns, Layers
 
@@ -40,8 +42,9 @@ def content(*parts: str) -> bytes:
 
 def outcome(tool: ModuleType, *words: object) -> tuple[int, str, str]:
     """Status, standard output and standard error of a tool."""
-    output, errors = io.StringIO(), io.StringIO()
-    status = tool.main([str(word) for word in words], output, errors)
+    with contextlib.redirect_stdout(io.StringIO()) as output, contextlib.redirect_stderr(io.StringIO()) as errors:
+        given = [str(word) for word in words]
+        status = tool.main(given) if hasattr(tool, "main") else cli.run(tool.command, given)
     return status, output.getvalue(), errors.getvalue()
 
 

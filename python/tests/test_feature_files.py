@@ -1,6 +1,5 @@
 """Tests of features: their file, whether it is of a store, and the tools that name and write them."""
 
-import io
 import json
 import pathlib
 import subprocess
@@ -26,13 +25,8 @@ ODD = {"name": "West", "n": 1, "part": 0.114, "no": None, "is": True, "list": [1
 
 
 def ended(tool: Any, *words: object) -> tuple[int, str]:
-    """The status of a tool and what it reported, also where it refuses a word."""
-    with unittest.mock.patch("sys.stderr", io.StringIO()) as told:
-        try:
-            status, _, errors = outcome(tool, *words)
-        except SystemExit as fault:
-            status, errors = int(str(fault.code)), told.getvalue()
-    return status, errors
+    """The status of a tool and what it reported."""
+    return outcome(tool, *words)[::2]
 
 
 def feature(coordinates: Any, properties: dict[str, Any], identity: object = None) -> dict[str, Any]:

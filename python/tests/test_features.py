@@ -7,7 +7,6 @@ import concurrent.futures
 import contextlib
 import errno
 import importlib.util
-import io
 import itertools
 import json
 import os
@@ -41,7 +40,7 @@ from overlayd.web.rescue import Rescue
 from overlayd.web.scratch import Scratch
 from overlayd.web.systems import Projection, Systems
 from . import testing
-from .common import TOP
+from .common import TOP, outcome
 from .testing import Client, folder
 
 pytestmark = pytest.mark.live
@@ -72,10 +71,10 @@ def made(place: pathlib.Path, found: list[dict[str, Any]], *words: str) -> pathl
     """A store of a map with the file of its features, by overlay import and the program."""
     source, script, store = place / "plan.geojson", place / "plan.txt", place / "plan.db"
     source.write_text(json.dumps({"type": "FeatureCollection", "features": found}))
-    told, factor = io.StringIO(), [] if "--factor" in words else ["--factor", "1"]
-    status = to_script.main([str(source), *factor, *words, "--output", str(script)], told, told)
+    factor = [] if "--factor" in words else ["--factor", "1"]
+    status, _, told = outcome(to_script, source, *factor, *words, "--output", script)
     if status:
-        raise AssertionError(told.getvalue())
+        raise AssertionError(told)
     with Server(store, create=True, program=testing.PROGRAM, timeout=60) as server, server.session() as one:
         one.batch(script.read_text().splitlines())
         one.sync()

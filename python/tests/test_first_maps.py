@@ -309,7 +309,5 @@ class FirstMaps(WithProgram):
             self.assertEqual((status, self.names(), told in errors), (2, [], True), errors)
         for words, told in ((["--port", "x", "a"], "--port"),
                             (["a", "--with", "b", "--name-by", "n"], "--with makes each map")):
-            with self.assertRaises(SystemExit) as ended, unittest.mock.patch("sys.stderr") as errors:
-                self.made(*words)
-            self.assertEqual(ended.exception.code, 2)
-            self.assertIn(told, "".join(str(call) for call in errors.write.call_args_list))
+            status, _, errors = self.made(*words)
+            self.assertEqual((status, told in errors), (2, True), errors)

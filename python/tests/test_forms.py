@@ -2,7 +2,6 @@
 
 import contextlib
 import gzip
-import io
 import json
 import os
 import pathlib
@@ -175,11 +174,10 @@ class FilesOfGdal(WithGdal):
         for name in ("out.gpkg", "out.fgb"):
             file = self.folder / name
             words = ["--store", script, "--program", self.model(), "--features", "--output", file]
-            with contextlib.redirect_stderr(io.StringIO()) as errors:
-                self.assertEqual(to_geojson.main([str(word) for word in words]), 0)
+            status, _, errors = outcome(to_geojson, *words)
             told = [f"{file}: the property {name} is its column {name}_, as another differs in case alone"
                     for name in "NM"]
-            self.assertEqual(errors.getvalue().splitlines()[1:], told)
+            self.assertEqual((status, errors.splitlines()[1:]), (0, told))
 
     def rows_of(self, file: pathlib.Path) -> list[str]:
         """The columns of each feature that have a value, geometry left out; of a GeoPackage its own ids among them."""
@@ -202,9 +200,8 @@ class OwnTexts(InFolder):
         ends = ": written are .geojson, .json, .gpkg, .fgb"
         for name, told in (("a.shp", ends), ("a.csv", ends), ("a.xyz", ends), ("a.json.dxf", ends),
                            ("a.geojson.gz", ends), (".", "is a folder")):
-            with self.assertRaises(SystemExit) as ended, contextlib.redirect_stderr(io.StringIO()) as errors:
-                to_geojson.main(["--store", str(script), "--output", name])
-            self.assertEqual((ended.exception.code, told in errors.getvalue()), (2, True), errors.getvalue())
+            status, _, errors = outcome(to_geojson, "--store", script, "--output", name)
+            self.assertEqual((status, told in errors), (2, True), errors)
 
     def piped(self, data: bytes) -> str:
         """The name of a pipe with these bytes in it."""

@@ -6,9 +6,12 @@ import subprocess
 import sys
 import tempfile
 import unittest
+from fractions import Fraction
+
+import click
 
 from overlayd.cli import PURPOSES
-from overlayd.commands.parsing import Parser
+from overlayd.words import NUMBER, argument, flag, option, subcommand, words_of
 
 from .common import OVERLAY, SECONDS, TOP
 
@@ -23,7 +26,7 @@ class Helps(unittest.TestCase):
         for name in PURPOSES:
             done = ran(*OVERLAY, name, "--help")
             self.assertEqual((done.returncode, done.stderr), (0, ""), name)
-            self.assertTrue(done.stdout.startswith(f"usage: overlay {name} "), name)
+            self.assertTrue(done.stdout.lower().startswith(f"usage: overlay {name} "), name)
             self.assertGreater(len(done.stdout.split()), 20, name)
 
     def test_the_list_of_subcommands_loads_none_of_them(self) -> None:
@@ -42,24 +45,32 @@ class Helps(unittest.TestCase):
 
     def test_an_option_of_one_value_that_is_given_twice_is_refused(self) -> None:
         for words in (
-            ("show", "m.json", "--folder"), ("dump", "m.db", "--output"), ("pairs", "a.json", "b.json", "--factor"),
-            ("task", "--program"), ("export", "--store"), ("rings", "--scale"), ("import", "m.json", "--factor"),
-            ("svg", "--store"), ("which", "--scale"), ("serve", "--store"),
+            ("show", "m.json", "--folder"), ("dump", "m.db", "--output"), ("export", "--store"), ("rings", "--scale"),
+            ("import", "m.json", "--factor"), ("svg", "--store"), ("which", "--scale"), ("serve", "--store"),
         ):
             done = ran(*OVERLAY, *words, "1", words[-1], "1")
-            told = f" error: argument {words[-1]}: given twice\n"
+            told = f"Error: Option '{words[-1]}' is given twice.\n"
             self.assertEqual((done.returncode, done.stdout, done.stderr.endswith(told)), (2, "", True), done.stderr)
 
     def test_what_may_be_given_several_times_is_taken_so(self) -> None:
-        parser = Parser()
-        parser.add_argument("--name", action="append")
-        parser.add_argument("--origin", nargs=2)
-        parser.add_argument("--exact", action="store_true")
-        parser.add_argument("files", nargs="*")
-        given = ["a", "--name", "b", "--name", "b", "--exact", "--exact", "--origin", "1", "1"]
+        given = "-5 --name b --name=-b --exact --exact --origin -1 -5/3 --dask -- -a".split()
+        found = {"name": ("b", "-b"), "origin": (-1, Fraction(-5, 3)), "exact": True, "dask": "", "files": ("-5", "-a")}
         for _ in range(2):  # what is parsed anew is given anew
-            self.assertEqual(vars(parser.parse_args(given)),
-                             {"name": ["b", "b"], "origin": ["1", "1"], "exact": True, "files": ["a"]})
+            self.assertEqual(vars(words_of(self.command(), given)), found)
+
+    def command(self) -> click.Command:
+        return subcommand(None, option("--name", "", multiple=True), option("--origin", "", NUMBER, nargs=2),
+                          flag("--exact", ""), option("--dask", "", is_flag=False, flag_value=""),
+                          argument("files", nargs=-1))(lambda words: 0)
+
+    def test_a_word_that_looks_like_an_option_is_no_value(self) -> None:
+        for given, told in ((["--name", "--exact"], "Option '--name' requires an argument."),
+                            (["--origin", "1", "-x"], "Option '--origin' requires 2 arguments."),
+                            (["--name"], "Option '--name' requires an argument."),
+                            (["--origin", "1"], "Option '--origin' requires 2 arguments."),
+                            (["--nam", "x"], "No such option: --nam"), (["--origin", "1", "x"], "no number")):
+            with self.assertRaisesRegex(click.UsageError, re.escape(told)):
+                words_of(self.command(), given)
 
     def test_each_subcommand_is_told_once(self) -> None:
         rows = re.findall(r"^\| `overlay ([a-z]+)` \|", (TOP / "python/README.md").read_text(), re.M)
@@ -84,4 +95,4 @@ class Helps(unittest.TestCase):
                            [sys.executable, TOP / "python/src/overlayd/__main__.py"]):
                 done = subprocess.run([*map(str, called), "which", "--help"], cwd=made, capture_output=True, text=True,
                                       check=True, timeout=SECONDS)
-                self.assertTrue(done.stdout.startswith("usage: overlay which [-h] --store FILE"), done.stdout)
+                self.assertTrue(done.stdout.startswith("Usage: overlay which [OPTIONS] [X Y]"), done.stdout)

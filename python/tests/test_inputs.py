@@ -4,7 +4,6 @@ import json
 import os
 import subprocess
 import sys
-import unittest.mock
 from typing import Any
 
 from overlayd import ending
@@ -50,9 +49,7 @@ class BadMaps(InFolder):
                 status, output, errors = outcome(tool, *words, "--program", "none")
                 self.assertEqual((status, output, errors), (1, "", errors))
                 self.assertRegex(errors, f"^{folder}: a folder, and no (file|store)\n$")
-            with self.assertRaises(SystemExit) as ended, unittest.mock.patch("sys.stderr"):
-                to_script.main([str(square), "--output", str(folder)])
-            self.assertEqual(ended.exception.code, 2)
+            self.assertEqual(outcome(to_script, square, "--output", folder)[:2], (2, ""))
 
 
 class WholeFiles(InFolder):
@@ -88,9 +85,9 @@ class Unforeseen(InFolder):
     """Each tool, with a part of it that raises what none of them foresees."""
 
     def call(self, name: str, *options: str) -> subprocess.CompletedProcess[str]:
-        code = ("import argparse, sys\n"
+        code = ("import importlib\n"
                 "def broken(*_): raise KeyError('odd\\nthing')\n"
-                "argparse.ArgumentParser.parse_args = broken\n"
+                "importlib.import_module = broken\n"
                 "from overlayd import cli\n"
                 f"cli.main(args=[{name!r}])\n")
         return subprocess.run([sys.executable, *options, "-c", code], cwd=TOP, env=SOURCES, capture_output=True,
@@ -100,7 +97,7 @@ class Unforeseen(InFolder):
         for name in PURPOSES:
             done = self.call(name)
             self.assertEqual((done.returncode, done.stdout), (1, ""), name)
-            self.assertRegex(done.stderr, rf"^overlay( {name})?: KeyError: 'odd\\nthing' \(<string>, line 2\): a "
+            self.assertRegex(done.stderr, rf"^overlay {name}: KeyError: 'odd\\nthing' \(<string>, line 2\): a "
                                           r"defect of this tool; python3 -X dev shows more\n$")
         self.assertIn("Traceback", self.call("which", "-X", "dev").stderr)
 

@@ -3,7 +3,6 @@
 import collections
 import csv
 import hashlib
-import io
 import json
 import random
 import unittest
@@ -127,10 +126,8 @@ class Fitting(InFolder):
         metres = self.file("metres.geojson", geojson(("b", [[square(500000, 5800000, 9)]]), crs="EPSG:25832"))
         for word, told in (("nonsense", "as EPSG:25832\n"), ("25832", "as EPSG:25832; EPSG:25832?\n"),
                            ("EPSG:", "as EPSG:25832\n")):
-            errors = io.StringIO()
-            with self.assertRaises(SystemExit) as ended, unittest.mock.patch("sys.stderr", errors):
-                outcome(to_script, metres, "--crs", word)
-            self.assertEqual((ended.exception.code, errors.getvalue().endswith(told)), (2, True), errors.getvalue())
+            status, _, errors = outcome(to_script, metres, "--crs", word)
+            self.assertEqual((status, errors.endswith(told)), (2, True), errors)
         none = (
             "is longitude and latitude, and 500009 5800009 is none: are x and y exchanged? Else say by --crs what it "
             "is, as EPSG:25832")
@@ -399,10 +396,8 @@ class Coding(InFolder):
         file = self.file("plan.wkt", SQUARE)
         for words in (["--coded"], ["--coded", "--union", "--output", "x.txt"], ["--scale", "x", "--fit"], ["--check"],
                       ["--factor", "0"]):
-            with self.assertRaises(SystemExit) as ended, unittest.mock.patch("sys.stderr") as errors:
-                to_script.main([str(file), *words])
-            told = "".join(str(call) for call in errors.write.call_args_list)
-            self.assertEqual((ended.exception.code, words[0].strip("-") in told.split("error: ")[1]), (2, True), told)
+            status, _, errors = outcome(to_script, file, *words)
+            self.assertEqual((status, words[0].strip("-") in errors.split("Error: ")[1]), (2, True), errors)
 
 
 class Areas(unittest.TestCase):

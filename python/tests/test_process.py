@@ -20,6 +20,7 @@ import pytest
 from overlayd.commands import serve as overlay_web
 from overlayd.program import Server
 from overlayd.web.features_api import PAGE
+from overlayd.words import words_of
 
 from . import testing
 from .common import SOURCES, TOP
@@ -33,8 +34,8 @@ def started(*words: str | pathlib.Path, lacking: str = "os.no_module", by: Seque
     interrupt reaches it as from a terminal, also where the tests run in a shell that ignores interrupts."""
     code = (
         "import signal, sys; signal.signal(signal.SIGINT, signal.default_int_handler); "
-        f"sys.argv[0] = 'overlay serve'; sys.modules['{lacking}'] = None; "
-        "from overlayd import ending; ending.run_module('overlayd.commands.serve')"
+        f"sys.modules['{lacking}'] = None; "
+        "from overlayd import cli; cli.main(['serve', *sys.argv[1:]])"
     )
     usual = {"--program": testing.PROGRAM, "--port": "0"}
     missing = [word for option, value in usual.items() if option not in words for word in (option, value)]
@@ -238,9 +239,9 @@ class Processes(unittest.TestCase):
             with running(*line.split()) as (run, _):
                 status, text = self.ended(run)
                 self.assertEqual((status, "Traceback" in text), (2, False), line)
-        words = overlay_web.words_of(["--store", "map.db", "--host", "10.1.2.3", "--name", "Map.Example.Org"])
+        words = words_of(overlay_web.command, ["--store", "map.db", "--host", "10.1.2.3", "--name", "Map.Example.Org"])
         self.assertEqual(overlay_web.hosts_of(words), {"10.1.2.3", "map.example.org"})
-        words = overlay_web.words_of(["--store", "map.db", "--host", "127.0.0.2"])
+        words = words_of(overlay_web.command, ["--store", "map.db", "--host", "127.0.0.2"])
         self.assertEqual(overlay_web.hosts_of(words), {"127.0.0.2", "127.0.0.1", "localhost", "[::1]"})
         self.assertTrue(
             overlay_web.is_loopback("127.8.8.8") and overlay_web.is_loopback("::1")

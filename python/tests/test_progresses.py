@@ -16,10 +16,9 @@ class Progresses(InFolder):
         file, output = self.file("many.geojson", geojson(*features)), self.folder / "many.txt"
         words = [str(file), "--coded", "--output", str(output)]
         code = (f"import sys\n{before}\n"
-                "from overlayd import ending, progress\n"
-                "from overlayd.commands import import_ as to_script\n"
+                "from overlayd import cli, progress\n"
                 "progress.BEGIN_SECONDS = 0\n"
-                f"ending.run(lambda _: to_script.main({words!r}))\n")
+                f"cli.main({['import', *words]!r})\n")
         return [sys.executable, "-c", code]
 
     def test_a_bar_on_a_terminal_and_on_standard_error_alone(self) -> None:
@@ -45,4 +44,4 @@ class Progresses(InFolder):
         done = subprocess.run(call, cwd=TOP, env=SOURCES, capture_output=True, text=True, check=False, timeout=SECONDS)
         told = "python3-tqdm is missing: apt-get install python3-tqdm, and run this by /usr/bin/python3"
         self.assertEqual((done.returncode, done.stdout), (1, ""))
-        self.assertEqual(done.stderr, f"-c: {told}\n")
+        self.assertEqual(done.stderr, f"overlay import: {told}\n")

@@ -240,7 +240,7 @@ class Texts(unittest.TestCase):
         for name in PURPOSES:
             done = ran("overlay", name, "--help")
             self.assertEqual((done.returncode, done.stderr), (0, ""), name)
-            self.assertTrue(done.stdout.startswith(f"usage: overlay {name} "), done.stdout)
+            self.assertTrue(done.stdout.lower().startswith(f"usage: overlay {name} "), done.stdout)
             self.assertNotIn("./overlay", done.stdout, name)
 
     def test_each_command_has_a_page_and_completion(self) -> None:
@@ -265,7 +265,7 @@ class Texts(unittest.TestCase):
         if not shutil.which("bash"):
             self.skipTest("bash is not there")
         for words, wanted in (
-            ("overlay which --st", "--store"), ("overlay che", "check"), ("overlay check --ga", "--gaps"),
+            ("overlay which --st", "--store"), ("overlay che", "check"), ("overlay rings --ar", "--areas"),
             ("overlayd --max", "--max-blocks"), ("/opt/bin/overlay_live --re", "--read-only"),
             ("overlay export --fe", "--features"), ("overlay --ver", "--version"),
             ("overlay serve --store nothing --wr", "--writable"), ("overlay show --on", "--only-make"),

@@ -106,9 +106,7 @@ class OverTheModel(InFolder):
         for words in (["a.txt"], ["--digits", "101"], ["--factor", "0"], ["--factor", "2", "--scale", "x"],
                       ["--factor", "1e400000000"], ["--factor-y", "1e-400000000"], ["--origin", "0", "1e400000000"]):
             for tool in (rings, svg, export):
-                with self.assertRaises(SystemExit) as ended, unittest.mock.patch("sys.stderr"):
-                    tool.main(["--store", "a.db", *words])
-                self.assertEqual(ended.exception.code, 2)
+                self.assertEqual(outcome(tool, "--store", "a.db", *words)[:2], (2, ""))
 
     def test_a_file_that_is_not_there(self) -> None:
         store, absent = self.file("a.db", TRIANGLE), self.folder / "absent"
@@ -141,7 +139,7 @@ class OverStores(WithProgram):
         store = self.store("plan.db", BOW + CUT)
         self.assertEqual(self.asked(rings, store)[:2], (0, "POLYGON ((1 0.333333, 3 1, 1 1.666667, 1 0.333333))\n"))
         self.assertEqual(self.asked(rings, store, "--layer", "W", "--areas")[1].splitlines()[-1], "area 8 8")
-        status, output, _ = self.asked(svg, store, "--grid", 20)
+        status, output, _ = self.asked(svg, store, "--points", 20)
         self.assertEqual((status, output.count("<circle") > 99), (0, True))
         xml.etree.ElementTree.fromstring(output)
         status, output, _ = self.asked(export, store)

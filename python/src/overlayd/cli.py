@@ -1,16 +1,14 @@
-"""The command `overlay`: its subcommands, each a module of overlayd.commands that is loaded when it is asked for."""
+"""The command `overlay`: its subcommands, each of a module of overlayd.commands that is loaded when it is asked for."""
 
 from __future__ import annotations
 
-import contextlib
 import importlib
-import io
-import re
+import os
 import sys
-from typing import Any, NoReturn
+from collections.abc import Callable, Sequence
+from typing import NoReturn
 
 import click
-from click.shell_completion import CompletionItem
 
 from . import __version__, ending
 
@@ -32,34 +30,19 @@ PURPOSES = {
 MODULES = {"import": "import_", "pairs": "maps", "pieces": "maps", "check": "maps", "task": "maps"}
 
 
-class Subcommand(click.Command):
-    """A subcommand, which reads its own words."""
+class Apart(click.Command):
+    """A subcommand whose module reads its words itself, by `main`."""
+
+    def __init__(self, name: str, main: Callable[[list[str]], int]) -> None:
+        super().__init__(name)
+        self.called = main
 
     def parse_args(self, context: click.Context, args: list[str]) -> list[str]:
         context.args = args
         return []
 
-    def called(self) -> tuple[str, list[str]]:
-        """The module, and how its words begin: with what it is called by."""
-        name = self.name or ""
-        module = MODULES.get(name, name)
-        return f"overlayd.commands.{module}", ["overlay", name] if module == "maps" else [f"overlay {name}"]
-
-    def invoke(self, context: click.Context) -> NoReturn:
-        module, begin = self.called()
-        sys.argv = [*begin, *context.args]
-        ending.run_module(module)
-
-    def shell_complete(self, context: click.Context, incomplete: str) -> list[CompletionItem]:
-        """The options that its usage names; of other words, files."""
-        if not incomplete.startswith("-"):
-            return [CompletionItem(incomplete, type="file")]
-        module, begin = self.called()
-        sys.argv = begin
-        with contextlib.redirect_stdout(io.StringIO()) as told, contextlib.suppress(SystemExit):
-            importlib.import_module(module).main([*begin[1:], "--help"])
-        options = re.findall(r"--[a-z][a-z-]*", told.getvalue().partition("\n\n")[0])
-        return [CompletionItem(one) for one in ["--help", *options] if one.startswith(incomplete)]
+    def invoke(self, context: click.Context) -> int:
+        return self.called(context.args)
 
 
 class Commands(click.Group):
@@ -69,7 +52,14 @@ class Commands(click.Group):
         return list(PURPOSES)
 
     def get_command(self, context: click.Context, name: str) -> click.Command | None:
-        return Subcommand(name, help=PURPOSES[name]) if name in PURPOSES else None
+        """The `command` of the subcommand's module."""
+        if name not in PURPOSES:
+            return None
+        module = importlib.import_module(f"overlayd.commands.{MODULES.get(name, name)}")
+        if hasattr(module, "command"):
+            found: click.Command = module.command
+            return found
+        return Apart(name, lambda words: int(module.main([name, *words] if name in MODULES else words)))
 
     def format_commands(self, context: click.Context, formatter: click.HelpFormatter) -> None:
         with formatter.section("Subcommands"):
@@ -83,7 +73,22 @@ def group() -> None:
     """Exact overlays of polygon layers, kept in one durable file. `overlay SUBCOMMAND --help` says more of each."""
 
 
-def main(**given: Any) -> NoReturn:
+def run(command: click.Command, words: Sequence[str], name: str = "overlay") -> int:
+    """The status of a command that is called with these words. Wrong ones are reported, and it is 2."""
+    try:
+        with command.make_context(name, list(words)) as context:
+            return int(command.invoke(context) or 0)
+    except click.exceptions.Exit as ended:
+        return ended.exit_code
+    except click.ClickException as fault:
+        fault.show()
+        return fault.exit_code
+
+
+def main(args: Sequence[str] | None = None) -> NoReturn:
     """Runs the command by the words that it is called with."""
-    group(prog_name="overlay", **given)
-    sys.exit(0)
+    if "_OVERLAY_COMPLETE" in os.environ:  # a shell asks how words can go on
+        group.main(prog_name="overlay")
+    words = sys.argv[1:] if args is None else args
+    sys.argv[0] = " ".join(["overlay", *(word for word in words[:1] if word in PURPOSES)])  # faults are told of it
+    ending.run(lambda _: run(group, words))

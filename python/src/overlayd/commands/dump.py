@@ -15,22 +15,20 @@ Status 0: all layers are written; 1: the store cannot be read, its features are 
 written.
 """
 
-import argparse
 import pathlib
 import sys
 from dataclasses import replace
-from typing import TextIO
 
 from .. import ending
 from ..ending import Unusable
 from ..files import writing
 from ..grid import scale as scales
 from ..program import Layer
-from ..program_files import PROGRAM_HELP, found_program
+from ..program_files import found_program
 from ..store import features, keeping
 from ..store.layers import Layers, command_of, digests
 from ..store.opening import is_store, opened
-from .parsing import Parser
+from ..words import FILE, PROGRAM, Words, argument, option, subcommand
 
 
 def script_of(layers: list[Layer]) -> str:
@@ -69,22 +67,18 @@ def is_one_of(path: pathlib.Path, others: list[pathlib.Path]) -> bool:
     return any(path.exists() and other.exists() and path.samefile(other) for other in others)
 
 
-def main(arguments: list[str], output: TextIO | None = None, errors: TextIO | None = None) -> int:
-    parser = Parser(description=__doc__, formatter_class=argparse.RawDescriptionHelpFormatter)
-    parser.add_argument("store", metavar="STORE", type=pathlib.Path, help="the store's file")
-    parser.add_argument("--output", metavar="NAME.txt", type=pathlib.Path,
-                        help="in the place of standard output, with the scale and the features beside it")
-    parser.add_argument("--program", metavar="PATH", help=PROGRAM_HELP)
-    words = parser.parse_args(arguments)
-    output, errors = output or sys.stdout, errors or sys.stderr
+@subcommand(__doc__, argument("store", FILE), PROGRAM,
+            option("--output", "in the place of standard output, with the scale and the features beside it", FILE,
+                   metavar="NAME.txt"))
+def command(words: Words) -> int:
     try:
         with opened(words.program or found_program(), words.store) as session:
             layers = session.layers()
         if words.output:
             write(layers, words.store, words.output)
         else:
-            output.write(script_of(layers))
+            sys.stdout.write(script_of(layers))
     except Unusable as fault:
-        print(fault, file=errors)
+        print(fault, file=sys.stderr)
         return 1
     return 0

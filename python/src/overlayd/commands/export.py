@@ -28,12 +28,12 @@ Status 0: all layers or features are written; 1: the store cannot be read, a lay
 cannot be written; 2: a word is refused.
 """
 
-import argparse
 import json
 import pathlib
 import sys
 from collections.abc import Iterator
-from typing import TextIO
+
+import click
 
 from .. import ending, progress
 from ..ending import Unusable
@@ -45,8 +45,8 @@ from ..program_files import found_program
 from ..store import feature_texts, keeping, layers
 from ..store.features import FeaturesFault, beside, read, resolved
 from ..store.opening import is_store, layers_of, opened
+from ..words import FILE, Words, flag, option, subcommand
 from . import store_layers
-from .parsing import Parser
 from .store_layers import Map
 
 
@@ -73,7 +73,7 @@ def feature(found: Map, layer: str, kind: str, coordinates: str, rings: list[Rin
             f'"geometry": {{"type": "{kind}", "coordinates": {coordinates}}}}}')
 
 
-def features(found: Map, words: argparse.Namespace) -> Iterator[str]:
+def features(found: Map, words: Words) -> Iterator[str]:
     """A feature for each layer, or for each of its polygons; with its pieces as rings."""
     for layer, columns in progress.bar("joining layers", len(found.columns), found.columns.items()):
         polygons = layers.polygons(layer, columns)
@@ -86,33 +86,18 @@ def features(found: Map, words: argparse.Namespace) -> Iterator[str]:
             yield feature(found, layer, "MultiPolygon", "[" + ", ".join(texts) + "]", rings, words.exact)
 
 
-def text_of(found: Map, words: argparse.Namespace) -> str:
+def text_of(found: Map, words: Words) -> str:
     """The whole collection."""
     body, name = ",\n".join(features(found, words)), words.store.stem
     return (f'{{"type": "FeatureCollection", "name": {json.dumps(found.scale.title or name)},\n'
             f'{coordinate_systems.member(found.scale.crs)}"features": [\n{body}\n]}}\n')
 
 
-def parser_of() -> argparse.ArgumentParser:
-    parser = Parser(description=__doc__, formatter_class=argparse.RawDescriptionHelpFormatter)
-    store_layers.add_words(parser, many=True)
-    parser.add_argument("--top", action="store_true", help="only layers that no definition names")
-    form = parser.add_mutually_exclusive_group()
-    form.add_argument("--parts", action="store_true", help="a feature for each polygon")
-    form.add_argument("--features", action="store_true", help="the features of the source with all their properties")
-    parser.add_argument("--exact", action="store_true", help="area_exact in each feature, however many digits it has")
-    parser.add_argument("--output", metavar="FILE", type=pathlib.Path,
-                        help="in the place of standard output: .geojson, .gpkg or .fgb")
-    store_layers.add_scale_words(parser)
-    return parser
-
-
-def feature_collection(words: argparse.Namespace, parser: argparse.ArgumentParser,
-                       errors: TextIO) -> tuple[str, scales.Scale]:
+def feature_collection(words: Words) -> tuple[str, scales.Scale]:
     """The features of the source, as they are in a store."""
     if words.layer or words.top:
-        parser.error("--features are those of a store, all of them")
-    scale, file = store_layers.scale_of(words, parser)
+        raise click.UsageError("--features are those of a store, all of them")
+    scale, file = store_layers.scale_of(words)
     program = words.program or found_program()
     try:
         path = beside(words.store)
@@ -123,28 +108,28 @@ def feature_collection(words: argparse.Namespace, parser: argparse.ArgumentParse
     except FeaturesFault as fault:
         raise Unusable(str(fault)) from fault
     if file:
-        print(f"coordinates of the world by {file}", file=errors)
+        print(f"coordinates of the world by {file}", file=sys.stderr)
     body = ",\n".join(feature_texts.texts(table, held, scale, program))
     return (f'{{"type": "FeatureCollection", "name": {json.dumps(table.collection)},\n'
             f'{coordinate_systems.member(scale.crs)}"features": [\n{body}\n]}}\n'), scale
 
 
-def write(found: Map, words: argparse.Namespace, output: TextIO, errors: TextIO) -> int:
+def write(found: Map, words: Words) -> int:
     if words.top:
         found.columns = {name: found.columns[name] for name in found.layers.unnamed() if name in found.columns}
-    put(text_of(found, words), found.scale, words, output, errors)
+    put(text_of(found, words), found.scale, words)
     return 0
 
 
-def put(text: str, scale: scales.Scale, words: argparse.Namespace, output: TextIO, errors: TextIO) -> None:
+def put(text: str, scale: scales.Scale, words: Words) -> None:
     """Writes the collection to where it goes, and says which properties have another name there."""
     try:
         if words.output is None:
-            output.write(text)
+            sys.stdout.write(text)
         elif is_gdals(words.output):
             for name, column in gdal_files.write(words.output, text, scale.crs).items():
                 print(f"{words.output}: the property {name} is its column {column}, as another differs in case alone",
-                      file=errors)
+                      file=sys.stderr)
         else:
             writing.write_all({words.output: text.encode()})
     except gdal_files.GdalFault as fault:
@@ -160,39 +145,43 @@ def is_gdals(path: pathlib.Path) -> bool:
     return path.suffix.lower() not in ("", *gdal_files.UNAIDED)
 
 
-def check_output(words: argparse.Namespace, parser: argparse.ArgumentParser) -> None:
+def check_output(words: Words) -> None:
     """Refuses an output that cannot be written, before anything is asked."""
     if words.output is None:
         return
     if not words.output.name or words.output.is_dir():
-        parser.error(f"--output: {words.output} is a folder, and no file")
+        raise click.UsageError(f"--output: {words.output} is a folder, and no file")
     if is_store(words.output):
-        parser.error(f"--output: {words.output} is a store, which is not written over")
+        raise click.UsageError(f"--output: {words.output} is a store, which is not written over")
     given = [words.store] if words.store.name else []
     for path in [*given, *([words.scale] if words.scale else [])]:
         if keeping.is_same(words.output, path):
-            parser.error(f"--output: {words.output} is read here, and is not written over")
+            raise click.UsageError(f"--output: {words.output} is read here, and is not written over")
     try:
         keeping.check_apart(words.output, given)
     except keeping.StoreStands as fault:
-        parser.error(f"--output: {fault}")
+        raise click.UsageError(f"--output: {fault}")
     if is_gdals(words.output):
         try:
             gdal_files.check_target(words.output)
         except gdal_files.GdalFault as fault:
-            parser.error(f"--output: {fault}")
+            raise click.UsageError(f"--output: {fault}")
 
 
-def main(arguments: list[str], output: TextIO | None = None, errors: TextIO | None = None) -> int:
-    parser = parser_of()
-    words = parser.parse_args(arguments)
-    check_output(words, parser)
+@subcommand(
+    __doc__, *store_layers.words(many=True), flag("--top", "only layers that no definition names"),
+    flag("--parts", "a feature for each polygon"),
+    flag("--features", "the features of the source with all their properties"),
+    flag("--exact", "area_exact in each feature, however many digits it has"),
+    option("--output", "in the place of standard output: .geojson, .gpkg or .fgb", FILE, metavar="FILE"),
+    *store_layers.scale_words())
+def command(words: Words) -> int:
+    check_output(words)
     if not words.features:
-        return store_layers.run(parser, arguments, write, output, errors, many=True)
+        return store_layers.run(words, write, many=True)
     try:
-        text, scale = feature_collection(words, parser, errors or sys.stderr)
-        put(text, scale, words, output or sys.stdout, errors or sys.stderr)
+        put(*feature_collection(words), words)
     except Unusable as fault:
-        print(fault, file=errors or sys.stderr)
+        print(fault, file=sys.stderr)
         return 1
     return 0

@@ -38,7 +38,6 @@ a scale, names or features that a store beside it needs, or a file that was not 
 --output, and nothing was written.
 """
 
-import argparse
 import csv
 import io
 import math
@@ -49,7 +48,8 @@ import unicodedata
 from collections.abc import Callable
 from dataclasses import dataclass, field, replace
 from fractions import Fraction
-from typing import TextIO
+
+import click
 
 from .. import ending, progress
 from ..ending import Unusable
@@ -60,14 +60,13 @@ from ..geometry import wkt
 from ..grid import limits, scale as scales
 from ..grid.scale import Scale
 from ..maps import checking
-from ..program_files import PROGRAM_HELP, found_program
+from ..program_files import found_program
 from ..store import describing, features, keeping, layering
 from ..store.describing import Described, counted
 from ..store.layering import Group, Layout, Store
 from ..store.layers import digests
 from ..store.opening import begins_as_store, is_store
-from .parsing import Parser
-
+from ..words import CRS, FILE, NUMBER, PROGRAM, Words, argument, flag, option, subcommand, words_of
 
 NAMED_MAX = 10  # so many properties are reported, and refusals where nothing is written
 
@@ -136,7 +135,7 @@ def content(name: str, layer: str | None) -> str:
     return data.decode("utf-8-sig")
 
 
-def read_shapes(words: argparse.Namespace) -> tuple[list[Shape], set[str | None], Described]:
+def read_shapes(words: Words) -> tuple[list[Shape], set[str | None], Described]:
     """The shapes of all files, the names of their coordinates, and what files say of their features."""
     shapes, systems, properties = list[Shape](), dict[int, str | None](), dict[str, None]()
     described: Described = {}
@@ -172,7 +171,7 @@ def listed(properties: list[str]) -> str:
     return f"they have {', '.join(properties[:NAMED_MAX])}{more}" if properties else "they have none"
 
 
-def crs_for(words: argparse.Namespace, names: set[str | None], box: fitting.Box | None) -> str | None:
+def crs_for(words: Words, names: set[str | None], box: fitting.Box | None) -> str | None:
     """The name of the coordinates: the one given, else that of the files, else degrees where they may be."""
     given = [words.crs] if words.crs else coordinate_systems.distinct(sorted(name for name in names if name))
     if len(given) > 1:
@@ -191,7 +190,7 @@ def crs_for(words: argparse.Namespace, names: set[str | None], box: fitting.Box 
     return crs
 
 
-def scale_for(words: argparse.Namespace, box: fitting.Box | None, crs: str | None) -> Scale:
+def scale_for(words: Words, box: fitting.Box | None, crs: str | None) -> Scale:
     """The scale that the words ask for."""
     if words.scale:
         try:
@@ -232,7 +231,7 @@ def check_scale(reader: Reader, box: fitting.Box | None, scale: Scale, given: bo
 class Planner:
     """Makes layers and stores of groups, and says what they became."""
 
-    def __init__(self, words: argparse.Namespace, refuse: Callable[[str, str], None]) -> None:
+    def __init__(self, words: Words, refuse: Callable[[str, str], None]) -> None:
         self.words, self.refuse = words, refuse
         self.names = layering.Names()
         self.told: list[str] = []
@@ -339,7 +338,7 @@ def table_line(row: list[object]) -> str:
     return text.getvalue().removesuffix("\r\n") + "\n"
 
 
-def read_by(words: argparse.Namespace) -> list[pathlib.Path]:
+def read_by(words: Words) -> list[pathlib.Path]:
     """The files that were read, standard input by a path of its own."""
     return [pathlib.Path("/dev/stdin" if name == "-" else name) for name in words.files]
 
@@ -362,7 +361,7 @@ def scripts_of(output: pathlib.Path, stores: list[Store]) -> list[pathlib.Path]:
     return [pathlib.Path(f"{base}.{place}{output.suffix}") for place in range(1, len(stores) + 1)]
 
 
-def scale_text(words: argparse.Namespace, stores: list[Store], scale: Scale) -> bytes:
+def scale_text(words: Words, stores: list[Store], scale: Scale) -> bytes:
     """The scale, with digests of the layers that it is written for."""
     layers = tuple(digests({name: [ring for polygon in polygons for ring in polygon]
                             for layout in store.layouts for name, polygons in layout.base})
@@ -385,7 +384,7 @@ class Beside:
         self.told.append(f"{told} in {path}")
 
 
-def beside(words: argparse.Namespace, stores: list[Store], scale: Scale, described: Described) -> Beside:
+def beside(words: Words, stores: list[Store], scale: Scale, described: Described) -> Beside:
     """What goes with the scripts of stores."""
     base, found = words.output.with_suffix(""), Beside()
     found.add(pathlib.Path(f"{base}.scale.json"), scale_text(words, stores, scale), "factor and origin")
@@ -405,7 +404,7 @@ def beside(words: argparse.Namespace, stores: list[Store], scale: Scale, describ
     return found
 
 
-def check_output(words: argparse.Namespace, scripts: list[pathlib.Path], files: Beside, scale: Scale) -> None:
+def check_output(words: Words, scripts: list[pathlib.Path], files: Beside, scale: Scale) -> None:
     """Refuses to write over a store, over what was read, and over what a store needs."""
     sidecar, *others = files.texts
     targets = [*scripts, *others]
@@ -421,7 +420,7 @@ def check_output(words: argparse.Namespace, scripts: list[pathlib.Path], files: 
         raise Stopped(f"--output: {fault}") from fault
 
 
-def write_files(words: argparse.Namespace, stores: list[Store], scale: Scale, described: Described) -> list[str]:
+def write_files(words: Words, stores: list[Store], scale: Scale, described: Described) -> list[str]:
     """Writes the scripts and what goes with them, whole or not at all, and says how to make stores of them."""
     scripts, files, told = scripts_of(words.output, stores), beside(words, stores, scale, described), []
     texts = {}
@@ -437,7 +436,7 @@ def write_files(words: argparse.Namespace, stores: list[Store], scale: Scale, de
     return files.told[:1] + told + files.told[1:]
 
 
-def overlaps(words: argparse.Namespace, stores: list[Store], scale: Scale, say: Callable[[str], None]) -> int:
+def overlaps(words: Words, stores: list[Store], scale: Scale, say: Callable[[str], None]) -> int:
     """Says which features overlap, and by how much, the largest area first: 1 where some do, or nobody can say."""
     features_of_all = [group for store in stores for group in store.features]
     try:
@@ -459,47 +458,28 @@ def told_area(area: Fraction) -> str:
     return scales.decimals(area, max(2, 2 - math.floor(math.log10(area))))
 
 
-def words_of(arguments: list[str]) -> argparse.Namespace:
-    parser = Parser(description=__doc__, formatter_class=argparse.RawDescriptionHelpFormatter)
-    parser.add_argument("files", metavar="FILE", nargs="+",
-                        help="GeoJSON, Well-Known Text, a GeoPackage, a Shapefile, a FlatGeobuf, GML, or CSV with "
-                        "Well-Known Text; - is standard input")
-    parser.add_argument("--source-layer", metavar="NAME", help="the layer of files that have several, as GeoPackages")
-    parser.add_argument("--factor", type=scales.number, help="default 1")
-    parser.add_argument("--factor-y", type=scales.number, help="another factor for y (default: that of x)")
-    parser.add_argument("--origin", type=scales.number, nargs=2, metavar=("X", "Y"),
-                        help="the point that becomes 0 0 (default 0 0)")
-    parser.add_argument("--fit", action="store_true", help="factor and origin from the data, where they are not given")
-    parser.add_argument("--scale", metavar="FILE", type=pathlib.Path,
-                        help="factor and origin of another map, NAME.scale.json")
-    parser.add_argument("--name", help="the layer's name (default: the file's)")
-    parser.add_argument("--name-by", metavar="PROPERTY",
-                        help="a layer for each value of this property of GeoJSON features, one of which has it")
-    parser.add_argument("--split", action="store_true", help="spread what is too long for a layer over several")
-    parser.add_argument("--union", action="store_true", help="polygons of one layer may overlap")
-    parser.add_argument("--coded", action="store_true", help="number the features over few layers (needs --output)")
-    parser.add_argument("--check", action="store_true", help="say which features of --coded overlap, and by how much")
-    parser.add_argument("--program", metavar="PATH", help=PROGRAM_HELP)
-    parser.add_argument("--output", metavar="NAME.txt", type=pathlib.Path, help="in the place of standard output")
-    parser.add_argument("--title", help="for the scale's file (default: the output's name)")
-    parser.add_argument("--unit", help="of the world's numbers (default: that of the coordinate system, else 1)")
-    parser.add_argument("--crs", type=scales.crs,
-                        help="the name of the world's coordinates, as EPSG:2263 (default: what the files say)")
-    words = parser.parse_args(arguments)
+def check_words(words: Words) -> None:
+    """Refuses words that do not go together."""
     if any(factor is not None and factor <= 0 for factor in (words.factor, words.factor_y)):
-        parser.error("a factor is greater than 0")
+        raise click.UsageError("a factor is greater than 0")
     if words.scale and (words.fit or words.factor or words.factor_y or words.origin):
-        parser.error("--scale and --fit, a factor or an origin are two answers")
+        raise click.UsageError("--scale and --fit, a factor or an origin are two answers")
     if words.coded and (words.union or not words.output):
-        parser.error("--coded needs --output NAME.txt, as it writes names too, and no --union")
+        raise click.UsageError("--coded needs --output NAME.txt, as it writes names too, and no --union")
     if words.check and not words.coded:
-        parser.error("--check is of --coded features")
+        raise click.UsageError("--check is of --coded features")
     if words.output and (not words.output.name or words.output.is_dir()):
-        parser.error(f"--output: {words.output} is a folder, and no file")
+        raise click.UsageError(f"--output: {words.output} is a folder, and no file")
+
+
+def words_for(files: list[str], **given: object) -> Words:
+    """The words of a call in this process."""
+    words = words_of(command, ["--", *files])
+    vars(words).update(given)
     return words
 
 
-def work(words: argparse.Namespace, output: TextIO, say: Callable[[str], None]) -> int:
+def work(words: Words, say: Callable[[str], None]) -> int:
     """Reads, lays out and writes; the status."""
     shapes, names, described = read_shapes(words)
     box = fitting.box_of(shapes)
@@ -520,7 +500,7 @@ def work(words: argparse.Namespace, output: TextIO, say: Callable[[str], None]) 
     else:
         stores = one_store(stores, reader.refuse)
         for line in (line for store in stores for line in lines_of(store)):
-            print(line, file=output)
+            print(line)
     if words.fit:
         moved = f"moved by at most {rounding.shown(reader.furthest())} {scale.unit}".removesuffix(" 1")
         say(f"{fitting.words(scale.factor, scale.origin)}; {moved if reader.furthest() else 'nothing is rounded'}")
@@ -536,11 +516,30 @@ def shortened(told: list[str]) -> list[str]:
     return told[:NAMED_MAX] + more
 
 
-def main(arguments: list[str], output: TextIO | None = None, errors: TextIO | None = None) -> int:
-    words = words_of(arguments)
-    output, errors = output or sys.stdout, errors or sys.stderr
+@subcommand(
+    __doc__, argument("files", metavar="FILE...", nargs=-1, required=True),
+    option("--source-layer", "the layer of files that have several, as GeoPackages", metavar="NAME"),
+    option("--factor", "default 1", NUMBER),
+    option("--factor-y", "another factor for y (default: that of x)", NUMBER),
+    option("--origin", "the point that becomes 0 0 (default 0 0)", NUMBER, nargs=2, metavar="X Y"),
+    flag("--fit", "factor and origin from the data, where they are not given"),
+    option("--scale", "factor and origin of another map, NAME.scale.json", FILE, metavar="FILE"),
+    option("--name", "the layer's name (default: the file's)"),
+    option("--name-by", "a layer for each value of this property of GeoJSON features, one of which has it",
+           metavar="PROPERTY"),
+    flag("--split", "spread what is too long for a layer over several"),
+    flag("--union", "polygons of one layer may overlap"),
+    flag("--coded", "number the features over few layers (needs --output)"),
+    flag("--check", "say which features of --coded overlap, and by how much"), PROGRAM,
+    option("--output", "in the place of standard output", FILE, metavar="NAME.txt"),
+    option("--title", "for the scale's file (default: the output's name)"),
+    option("--unit", "of the world's numbers (default: that of the coordinate system, else 1)"),
+    option("--crs", "the name of the world's coordinates, as EPSG:2263 (default: what the files say)", CRS))
+def command(words: Words) -> int:
+    check_words(words)
+    say: Callable[[str], None] = lambda text: print(text, file=sys.stderr)
     try:
-        return work(words, output, lambda text: print(text, file=errors))
+        return work(words, say)
     except Stopped as fault:
-        print(fault, file=errors)
+        say(str(fault))
         return 2

@@ -38,7 +38,7 @@ from .parsing import Parser
 
 
 def parser_of() -> argparse.ArgumentParser:
-    parser = Parser(description=__doc__, formatter_class=argparse.RawDescriptionHelpFormatter)
+    parser = Parser(prog="overlay", description=__doc__, formatter_class=argparse.RawDescriptionHelpFormatter)
     questions_of = parser.add_subparsers(dest="question", required=True, metavar="QUESTION")
     for name, text in (("pairs", "which features of two maps overlap or touch, and by how much"),
                        ("pieces", "all pieces of two maps, common ones and those of one map alone"),

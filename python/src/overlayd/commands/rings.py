@@ -22,16 +22,15 @@ inside. Status 0: all rings are written; 1: the store cannot be read, a column i
 cannot be written.
 """
 
-import argparse
+import sys
 from collections.abc import Iterator
-from typing import TextIO
 
 from ..geometry import areas, wkt
 from ..geometry.areas import Ring
 from ..grid.scale import Scale, decimals, spelled_exactly
 from ..store import layers
+from ..words import Words, flag, subcommand
 from . import store_layers
-from .parsing import Parser
 from .store_layers import Map
 
 
@@ -42,7 +41,7 @@ def heads(polygons: list[list[Ring]]) -> Iterator[tuple[str, Ring]]:
             yield f"polygon {number} {'outer' if ring.outer else 'hole'}", ring
 
 
-def exact_lines(polygons: list[list[Ring]], found: Map, _words: argparse.Namespace) -> Iterator[str]:
+def exact_lines(polygons: list[list[Ring]], found: Map, _words: Words) -> Iterator[str]:
     yield f"polygons {len(polygons)}"
     for head, ring in heads(polygons):
         yield f"{head} {len(ring.corners)}"
@@ -56,37 +55,30 @@ def area_line(head: str, rings: list[Ring], scale: Scale, exact: bool) -> str:
     return f"{head} {' '.join(numbers)}"
 
 
-def area_lines(polygons: list[list[Ring]], found: Map, words: argparse.Namespace) -> Iterator[str]:
+def area_lines(polygons: list[list[Ring]], found: Map, words: Words) -> Iterator[str]:
     for head, ring in heads(polygons):
         yield area_line(f"{head} area", [ring], found.scale, words.exact)
     yield area_line("area", [ring for polygon in polygons for ring in polygon], found.scale, words.exact)
 
 
-def text_lines(polygons: list[list[Ring]], found: Map, _words: argparse.Namespace) -> Iterator[str]:
+def text_lines(polygons: list[list[Ring]], found: Map, _words: Words) -> Iterator[str]:
     closed = [[[found.scale.world(corner) for corner in ring.corners + ring.corners[:1]] for ring in polygon]
               for polygon in polygons]
     yield wkt.write(closed, lambda number: decimals(number, found.scale.digits))
 
 
-def parser_of() -> argparse.ArgumentParser:
-    parser = Parser(description=__doc__, formatter_class=argparse.RawDescriptionHelpFormatter)
-    store_layers.add_words(parser)
-    parser.add_argument("--exact", action="store_true",
-                        help="fractions in place of Well-Known Text; with --areas each of them, however long")
-    parser.add_argument("--areas", action="store_true", help="areas in place of Well-Known Text")
-    store_layers.add_scale_words(parser)
-    return parser
+@subcommand(__doc__, *store_layers.words(),
+            flag("--exact", "fractions in place of Well-Known Text; with --areas each of them, however long"),
+            flag("--areas", "areas in place of Well-Known Text"), *store_layers.scale_words())
+def command(words: Words) -> int:
+    return store_layers.run(words, write)
 
 
-def write(found: Map, words: argparse.Namespace, output: TextIO, errors: TextIO) -> int:
+def write(found: Map, words: Words) -> int:
     (polygons,) = (layers.polygons(name, columns) for name, columns in found.columns.items())
     lines_of = area_lines if words.areas else exact_lines if words.exact else text_lines
-    output.write("".join(line + "\n" for line in list(lines_of(polygons, found, words))))
+    sys.stdout.write("".join(line + "\n" for line in list(lines_of(polygons, found, words))))
     holes = sum(len(polygon) - 1 for polygon in polygons)
     print(f"outer rings {len(polygons)} (counter-clockwise), holes {holes} (clockwise); inside on the left",
-          file=errors)
+          file=sys.stderr)
     return 0
-
-
-def main(arguments: list[str], output: TextIO | None = None, errors: TextIO | None = None) -> int:
-    return store_layers.run(parser_of(), arguments, write, output, errors)

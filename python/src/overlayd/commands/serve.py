@@ -15,15 +15,14 @@ write failed, each of which is reported: begin it anew; 2: wrong words.
 
 from __future__ import annotations
 
-import argparse
 import contextlib
 import ipaddress
-import pathlib
 import urllib.parse
-from collections.abc import Sequence
+
+import click
 
 from ..web.usual import LEAFLET, LOOPBACK
-from .parsing import Parser
+from ..words import FILE, Words, flag, option, subcommand
 
 
 def is_loopback(host: str) -> bool:
@@ -41,54 +40,37 @@ def is_address(text: str) -> bool:
         return False
 
 
-def words_of(arguments: Sequence[str]) -> argparse.Namespace:
-    parser = Parser(description=__doc__, formatter_class=argparse.RawDescriptionHelpFormatter)
-    parser.add_argument(
-        "--store", metavar="FILE", type=pathlib.Path, help="the store; without it all is lost at the end"
-    )
-    parser.add_argument("--create", action="store_true", help="make the store anew")
-    parser.add_argument(
-        "--scale", metavar="FILE", type=pathlib.Path,
-        help="what its whole numbers mean (default: NAME.scale.json beside the store, if it is there)",
-    )
-    parser.add_argument(
-        "--features", metavar="FILE", type=pathlib.Path,
-        help="the features of the map that its layers hold (default: NAME.features.json beside the store, if it is "
-        "there)",
-    )
-    parser.add_argument("--no-features", action="store_true", help="serve layers alone")
-    parser.add_argument("--as-stored", action="store_true", help="transform nothing")
-    parser.add_argument("--parts", action="store_true", help="show the layers that are parts of features as well")
-    parser.add_argument("--writable", action="store_true", help="let the page and PUT, DELETE and POST change layers")
-    parser.add_argument("--host", default="127.0.0.1", help="the address to listen on (default 127.0.0.1)")
-    parser.add_argument("--port", type=int, default=8080, help="the port; 0 for one that is free (default 8080)")
-    parser.add_argument("--base", metavar="URL", help="the address that a server before this one is asked by")
-    parser.add_argument("--name", action="append", default=[], help="a further name in the Host of questions")
-    parser.add_argument("--workers", metavar="WORKERS", type=int, choices=range(1, 9), default=2,
-                        help="threads that build tiles, 1 to 8 (default 2)")
-    parser.add_argument("--program", metavar="PATH", help="overlay_live (default: as the tools find it)")
-    parser.add_argument(
-        "--leaflet", type=pathlib.Path, default=LEAFLET, metavar="FOLDER", help=f"where Leaflet is (default {LEAFLET})"
-    )
-    words = parser.parse_args(arguments)
-    if words.writable and not is_loopback(words.host):
-        parser.error("--writable is for the loopback alone")
-    if not words.writable and (words.create or not words.store):
-        parser.error("without --writable it reads: name a --store that is there")
-    if words.base is not None and not is_address(words.base):
-        parser.error("--base is the address of a server, which begins with http:// or https://")
-    return words
-
-
-def hosts_of(words: argparse.Namespace) -> set[str]:
+def hosts_of(words: Words) -> set[str]:
     """The names in the Host of a good question."""
     host = words.host.lower()
     own = f"[{host}]" if ":" in host else host
     return {own, *(LOOPBACK if is_loopback(host) else ()), *(name.lower() for name in words.name)}
 
 
-def main(arguments: Sequence[str]) -> int:
-    words = words_of(arguments)
+@subcommand(
+    __doc__, option("--store", "the store; without it all is lost at the end", FILE, metavar="FILE"),
+    flag("--create", "make the store anew"),
+    option("--scale", "what its whole numbers mean (default: NAME.scale.json beside the store, if it is there)", FILE,
+           metavar="FILE"),
+    option("--features", "the features of the map that its layers hold (default: NAME.features.json beside the store, "
+           "if it is there)", FILE, metavar="FILE"),
+    flag("--no-features", "serve layers alone"), flag("--as-stored", "transform nothing"),
+    flag("--parts", "show the layers that are parts of features as well"),
+    flag("--writable", "let the page and PUT, DELETE and POST change layers"),
+    option("--host", "the address to listen on (default 127.0.0.1)", default="127.0.0.1"),
+    option("--port", "the port; 0 for one that is free (default 8080)", int, default=8080),
+    option("--base", "the address that a server before this one is asked by", metavar="URL"),
+    option("--name", "a further name in the Host of questions", multiple=True),
+    option("--workers", "threads that build tiles, 1 to 8 (default 2)", click.IntRange(1, 8), default=2),
+    option("--program", "overlay_live (default: as the tools find it)", metavar="PATH"),
+    option("--leaflet", f"where Leaflet is (default {LEAFLET})", FILE, default=LEAFLET, metavar="FOLDER"))
+def command(words: Words) -> int:
+    if words.writable and not is_loopback(words.host):
+        raise click.UsageError("--writable is for the loopback alone")
+    if not words.writable and (words.create or not words.store):
+        raise click.UsageError("without --writable it reads: name a --store that is there")
+    if words.base is not None and not is_address(words.base):
+        raise click.UsageError("--base is the address of a server, which begins with http:// or https://")
     from ..web import running
 
     return running.run(words, hosts_of(words))

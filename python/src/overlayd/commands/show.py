@@ -20,10 +20,8 @@ the rest made by --only-make, a line was refused, a program is not there, anothe
 fault; 2: wrong words, a file that cannot be read, or one that would be written over.
 """
 
-import argparse
 import contextlib
 import fcntl
-import io
 import json
 import os
 import pathlib
@@ -35,18 +33,18 @@ import sys
 import threading
 import webbrowser
 from collections.abc import Iterable, Mapping
-from typing import TextIO
+
+import click
 
 from .. import ending
 from ..ending import Unusable
 from ..files import writing
-from ..grid import scale as scales
 from ..program import Ended, Layer, Refused, Server
-from ..program_files import PROGRAM_HELP, found_program
+from ..program_files import found_program
 from ..store.describing import Described
 from ..store.layers import Layers
-from . import import_ as to_script
-from .parsing import Parser
+from ..words import CRS, FILE, PROGRAM, Words, argument, flag, option, subcommand
+from . import import_
 
 FRONT = [sys.executable, str(pathlib.Path(__file__).resolve().parents[1] / "__main__.py"), "serve"]
 NAMED = "both"
@@ -67,30 +65,6 @@ class Unmade(Exception):
         self.status = status
 
 
-def words_of(arguments: list[str]) -> argparse.Namespace:
-    parser = Parser(description=__doc__, formatter_class=argparse.RawDescriptionHelpFormatter)
-    parser.add_argument("map", metavar="MAP", type=pathlib.Path, help="GeoJSON, Well-Known Text, or what GDAL reads")
-    parser.add_argument("--with", metavar="MAP", dest="others", type=pathlib.Path, action="append", default=[],
-                        help="a further map on the same scale; may be given several times")
-    parser.add_argument("--name-by", metavar="PROPERTY", help="what the features are called by")
-    parser.add_argument("--crs", type=scales.crs, help="the name of the coordinates, where the files do not say it")
-    parser.add_argument("--source-layer", metavar="NAME", help="the layer of files that have several, as GeoPackages")
-    parser.add_argument("--folder", type=pathlib.Path, default=pathlib.Path(),
-                        help="where the folder of the store is made")
-    parser.add_argument("--again", action="store_true",
-                        help="make a store anew though it is there; what was changed in it since is lost")
-    parser.add_argument("--writable", action="store_true", help="let the page and HTTP change the map")
-    parser.add_argument("--port", type=int, default=8080,
-                        help="of the first front; 0 for one that is free (default 8080)")
-    parser.add_argument("--no-browser", action="store_true", help="open no browser")
-    parser.add_argument("--only-make", action="store_true", help="make the store, and start no front")
-    parser.add_argument("--program", metavar="PATH", help=PROGRAM_HELP)
-    words = parser.parse_args(arguments)
-    if words.others and words.name_by:
-        parser.error("--name-by is for the features of one map, and --with makes each map a layer")
-    return words
-
-
 # ---- making
 
 
@@ -105,33 +79,28 @@ def name_property(described: Described) -> str | None:
     return next(iter([*plain, *called, *apart]), None)
 
 
-def script_words(words: argparse.Namespace, output: pathlib.Path) -> list[str]:
+def import_words(words: Words, output: pathlib.Path) -> Words:
     """The words for overlay import."""
-    names = [str(path) for path in (words.map, *words.others)]
-    maps = [f"./{name}" if name.startswith("-") else name for name in names]  # else it is an option
-    found = [*maps, "--fit", "--split", "--output", str(output)]
-    found += ["--crs", words.crs] if words.crs else []
-    found += ["--source-layer", words.source_layer] if words.source_layer else []
-    if words.others:
-        return found
-    name_by = words.name_by
-    if name_by is None:
-        _, _, described = to_script.read_shapes(to_script.words_of(found))
-        name_by = name_property(described)
-    return [*found, "--coded", *(["--name-by", name_by] if name_by else [])]
+    maps = ["./-" if str(path) == "-" else str(path) for path in (words.map, *words.others)]
+    found = import_.words_for(maps, fit=True, split=True, output=output, crs=words.crs, coded=not words.others,
+                              source_layer=words.source_layer, name_by=words.name_by)
+    if not words.others and words.name_by is None:
+        _, _, described = import_.read_shapes(found)
+        found.name_by = name_property(described)
+    return found
 
 
-def made_scripts(words: argparse.Namespace, output: pathlib.Path, errors: TextIO) -> tuple[list[pathlib.Path], int]:
+def made_scripts(words: Words, output: pathlib.Path) -> tuple[list[pathlib.Path], int]:
     """The scripts of a map, one for each store, and the status: 1 where something of the map was refused."""
-    told = io.StringIO()
+    def say(text: str) -> None:
+        print(text.replace(f"{output.parent}/", "").partition("; overlayd --store ")[0], file=sys.stderr)
+
     try:
-        status = to_script.main(script_words(words, output), told, told)
-    except to_script.Stopped as fault:
+        status = import_.work(import_words(words, output), say)
+    except import_.Stopped as fault:
         raise Unmade(2, str(fault)) from fault
-    lines = told.getvalue().replace(f"{output.parent}/", "").splitlines()
-    print("\n".join(line.partition("; overlayd --store ")[0] for line in lines), file=errors)
     scripts = scripts_of(output)
-    if status == 2 or not scripts:
+    if not scripts:
         raise Unmade(max(status, 1), f"{words.map}: no store is made")
     if words.others:
         define_common(words, scripts)
@@ -151,7 +120,7 @@ def scripts_of(output: pathlib.Path) -> list[pathlib.Path]:
     return [numbered[number] for number in sorted(numbered)]
 
 
-def define_common(words: argparse.Namespace, scripts: list[pathlib.Path]) -> None:
+def define_common(words: Words, scripts: list[pathlib.Path]) -> None:
     """Adds the layer of what all maps have in common, where one store holds all of them."""
     if len(scripts) > 1:
         raise Unmade(1, f"{words.map} and {words.others[0]} do not fit into one store: lay them out by overlay import")
@@ -176,7 +145,7 @@ def make_store(script: pathlib.Path, program: str) -> None:
         raise Unmade(1, f"{script.name}: {fault}{free if DEVICE in str(fault) else ''}") from fault
 
 
-def stores_for(words: argparse.Namespace, program: str, errors: TextIO) -> tuple[list[pathlib.Path], int]:
+def stores_for(words: Words, program: str) -> tuple[list[pathlib.Path], int]:
     """The stores of a map, and the status of making them."""
     stem = "_and_".join(re.sub(r"[^A-Za-z0-9]+", "_", path.stem).strip("_") or "map"
                         for path in (words.map, *words.others))
@@ -190,7 +159,7 @@ def stores_for(words: argparse.Namespace, program: str, errors: TextIO) -> tuple
         older = any(path.stat().st_mtime > there[0].stat().st_mtime for path in (words.map, *words.others))
         age = ", older than its map" if older else ""
         print(f"{', '.join(map(str, there))}: made before{age}, and served as it is; --again makes it anew",
-              file=errors)
+              file=sys.stderr)
         return there, 0
     place = own if is_own(own) else words.folder
     if not os.access(place, os.W_OK | os.X_OK):
@@ -198,7 +167,7 @@ def stores_for(words: argparse.Namespace, program: str, errors: TextIO) -> tuple
     with contextlib.ExitStack() as held:
         hold(words, own, held)
         folder = unfinished(place, own, held)
-        scripts, status = made_scripts(words, folder / script_in(own).name, errors)
+        scripts, status = made_scripts(words, folder / script_in(own).name)
         for script in scripts:
             make_store(script, program)
         put(words, folder, own, there)
@@ -262,7 +231,7 @@ def is_free(path: pathlib.Path) -> bool:
     return False
 
 
-def put(words: argparse.Namespace, folder: pathlib.Path, own: pathlib.Path, there: list[pathlib.Path]) -> None:
+def put(words: Words, folder: pathlib.Path, own: pathlib.Path, there: list[pathlib.Path]) -> None:
     """Has what was made take its place: the folder whole where there is none, else the files in it, stores last."""
     if not is_own(own):
         try:
@@ -282,7 +251,7 @@ def put(words: argparse.Namespace, folder: pathlib.Path, own: pathlib.Path, ther
         path.replace(own / path.name)
 
 
-def check_maps(words: argparse.Namespace, there: list[pathlib.Path]) -> None:
+def check_maps(words: Words, there: list[pathlib.Path]) -> None:
     """Refuses a map that is not there, as the store of its name may be another's, and one that the
     store was not made of."""
     given = (words.map, *words.others)
@@ -306,7 +275,7 @@ def maps_of(script: pathlib.Path) -> list[pathlib.Path]:
         return []
 
 
-def hold(words: argparse.Namespace, own: pathlib.Path, held: contextlib.ExitStack) -> None:
+def hold(words: Words, own: pathlib.Path, held: contextlib.ExitStack) -> None:
     """Locks the stores that are to be replaced. One that this did not make, or that a program has, is refused."""
     for path in sorted(own.iterdir()) if own.is_dir() else ():
         if not re.fullmatch(rf"{re.escape(own.stem)}(\.[0-9]+)?\.db", path.name):
@@ -322,7 +291,7 @@ def hold(words: argparse.Namespace, own: pathlib.Path, held: contextlib.ExitStac
             raise Unmade(1, f"{path}: another program has it; end that one first") from fault
 
 
-def check_targets(words: argparse.Namespace, targets: list[pathlib.Path]) -> None:
+def check_targets(words: Words, targets: list[pathlib.Path]) -> None:
     """Refuses to write over a map that is read."""
     for given in (words.map, *words.others):
         if any(path.exists() and path.samefile(given) for path in targets):
@@ -342,7 +311,7 @@ def has_screen(environment: Mapping[str, str]) -> bool:
     return bool(environment.get("DISPLAY") or environment.get("WAYLAND_DISPLAY"))
 
 
-def started(words: argparse.Namespace, store: pathlib.Path, port: int,
+def started(words: Words, store: pathlib.Path, port: int,
             program: str) -> tuple[subprocess.Popen[str], str]:
     """A front over a store, and the address that it prints when it listens."""
     given = [*FRONT, "--store", str(store), "--program", program, "--port", str(port)]
@@ -374,7 +343,7 @@ def tell_end(front: subprocess.Popen[str], ended: threading.Event) -> None:
     ended.set()
 
 
-def show(words: argparse.Namespace, stores: list[pathlib.Path], program: str, output: TextIO) -> int:
+def show(words: Words, stores: list[pathlib.Path], program: str) -> int:
     """Runs a front for each store until one of them ends, or this is interrupted."""
     fronts: list[subprocess.Popen[str]] = []
     ended = threading.Event()
@@ -384,7 +353,7 @@ def show(words: argparse.Namespace, stores: list[pathlib.Path], program: str, ou
         for number, store in enumerate(stores):
             front, address = started(words, store, words.port + number if words.port else 0, program)
             fronts.append(front)
-            print(address, file=output, flush=True)
+            print(address, flush=True)
             threading.Thread(target=tell_end, args=(front, ended), daemon=True).start()
             if number == 0 and not words.no_browser and has_screen(os.environ):
                 webbrowser.open(address)
@@ -395,18 +364,30 @@ def show(words: argparse.Namespace, stores: list[pathlib.Path], program: str, ou
     return min(1, status)
 
 
-def main(arguments: list[str], output: TextIO | None = None, errors: TextIO | None = None) -> int:
-    words = words_of(arguments)
-    output, errors = output or sys.stdout, errors or sys.stderr
+@subcommand(
+    __doc__, argument("map", FILE, metavar="MAP"),
+    option("--with others", "a further map on the same scale; may be given several times", FILE, metavar="MAP",
+           multiple=True),
+    option("--name-by", "what the features are called by", metavar="PROPERTY"),
+    option("--crs", "the name of the coordinates, where the files do not say it", CRS),
+    option("--source-layer", "the layer of files that have several, as GeoPackages", metavar="NAME"),
+    option("--folder", "where the folder of the store is made", FILE, default=pathlib.Path()),
+    flag("--again", "make a store anew though it is there; what was changed in it since is lost"),
+    flag("--writable", "let the page and HTTP change the map"),
+    option("--port", "of the first front; 0 for one that is free (default 8080)", int, default=8080),
+    flag("--no-browser", "open no browser"), flag("--only-make", "make the store, and start no front"), PROGRAM)
+def command(words: Words) -> int:
+    if words.others and words.name_by:
+        raise click.UsageError("--name-by is for the features of one map, and --with makes each map a layer")
     try:
         program = words.program or found_program()
         words.folder.mkdir(parents=True, exist_ok=True)
-        stores, status = stores_for(words, program, errors)
-        return status if words.only_make else show(words, stores, program, output)
+        stores, status = stores_for(words, program)
+        return status if words.only_make else show(words, stores, program)
     except Unmade as fault:
-        print(fault, file=errors)
+        print(fault, file=sys.stderr)
         return fault.status
     except (Unusable, OSError) as fault:
         print(fault if isinstance(fault, Unusable) else ending.told(fault.filename or "overlay", fault),
-              file=errors)
+              file=sys.stderr)
         return 1

@@ -1,26 +1,26 @@
 """The layers of a store that a subcommand works on, and the words that subcommands have for them."""
 
-import argparse
 import pathlib
 import sys
 from collections.abc import Callable, Iterable
 from dataclasses import dataclass, field
 from fractions import Fraction
-from typing import TextIO
+
+import click
 
 from ..ending import Unusable
 from ..grid import scale as scales
 from ..program import Refused, Session
-from ..program_files import PROGRAM_HELP, found_program
+from ..program_files import found_program
 from ..store import expressions, features
 from ..store.layers import Columns, Layers, columns_of, digests
 from ..store.opening import layers_of, opened
+from ..words import FILE, NUMBER, PROGRAM, Words, option
 
 GIVEN = "given"
 Grid = tuple[int, int, int, list[str]]  # x, y, step, rows
 GridFor = Callable[[Layers], tuple[int, ...] | None]
-# What writes a map: of what was asked for, the words of the call, where it goes, and where faults are reported.
-Writer = Callable[["Map", argparse.Namespace, TextIO, TextIO], int]
+Writer = Callable[["Map", Words], int]  # writes what was asked for, as the words say, and gives the status
 
 
 @dataclass
@@ -36,43 +36,34 @@ class Map:
     grid: Grid | None = None
 
 
-def add_words(parser: argparse.ArgumentParser, many: bool = False) -> None:
+def words(many: bool = False) -> tuple[click.Option, ...]:
     """The words that subcommands have for where layers come from."""
-    parser.add_argument("--store", metavar="FILE", type=pathlib.Path, required=True,
-                        help="the store that has the layers; it is not changed")
-    parser.add_argument("--program", metavar="PATH", help=PROGRAM_HELP)
-    if many:
-        parser.add_argument("--layer", metavar="NAME", action="append",
-                            help="a layer, base or derived; may be given several times (default: all)")
-    else:
-        parser.add_argument("--layer", metavar="NAME",
-                            help="a layer, base or derived (default: the last derived one that LAYERS lists)")
+    of = ("may be given several times (default: all)" if many else "(default: the last derived one that LAYERS lists)")
+    return (option("--store", "the store that has the layers; it is not changed", FILE, metavar="FILE", required=True),
+            PROGRAM, option("--layer", f"a layer, base or derived; {of}", metavar="NAME", multiple=many))
 
 
-def add_scale_words(parser: argparse.ArgumentParser) -> None:
+def scale_words() -> tuple[click.Option, ...]:
     """The words for coordinates of the world."""
-    parser.add_argument("--scale", metavar="FILE", type=pathlib.Path,
-                        help="what whole numbers mean (default: NAME.scale.json beside the store NAME.*, where it is "
-                        "there)")
-    parser.add_argument("--factor", type=scales.number, help="in its place: the factor that overlay import was given")
-    parser.add_argument("--factor-y", type=scales.number, help="and that for y")
-    parser.add_argument("--origin", type=scales.number, nargs=2, metavar=("X", "Y"), help="and the origin")
-    parser.add_argument("--digits", type=int,
-                        help="digits after the point, 0 to 100 (default: those of the scale, else 6)")
+    return (option("--scale", "what whole numbers mean (default: NAME.scale.json beside the store NAME.*, where it is "
+                   "there)", FILE, metavar="FILE"),
+            option("--factor", "in its place: the factor that overlay import was given", NUMBER),
+            option("--factor-y", "and that for y", NUMBER),
+            option("--origin", "and the origin", NUMBER, nargs=2, metavar="X Y"),
+            option("--digits", "digits after the point, 0 to 100 (default: those of the scale, else 6)",
+                   click.IntRange(0, 100)))
 
 
-def scale_of(words: argparse.Namespace, parser: argparse.ArgumentParser) -> tuple[scales.Scale, pathlib.Path | None]:
+def scale_of(words: Words) -> tuple[scales.Scale, pathlib.Path | None]:
     """The scale that the words ask for, and the file that it is from, where it is from one."""
-    if words.digits is not None and not 0 <= words.digits <= 100:
-        parser.error("digits are 0 to 100")
     given = (words.factor, words.factor_y, words.origin)
     if given != (None, None, None):
         if words.scale:
-            parser.error("--scale and a factor or an origin are two answers")
+            raise click.UsageError("--scale and a factor or an origin are two answers")
         factor = Fraction(1) if words.factor is None else words.factor
         factor_y = factor if words.factor_y is None else words.factor_y
         if factor <= 0 or factor_y <= 0:
-            parser.error("a factor is greater than 0")
+            raise click.UsageError("a factor is greater than 0")
         x, y = words.origin or (Fraction(0), Fraction(0))
         return scales.with_digits(scales.Scale(factor, factor_y, (x, y)), words.digits), None
     scale, file = scale_beside(words.store, words.scale)
@@ -108,10 +99,9 @@ def grid_in(session: Session, name: str, given: tuple[int, ...] | None) -> Grid 
         return None
 
 
-def map_of(words: argparse.Namespace, parser: argparse.ArgumentParser, many: bool = False,
-           grid: GridFor | None = None) -> Map:
+def map_of(words: Words, many: bool = False, grid: GridFor | None = None) -> Map:
     """All that the words ask for."""
-    scale, file = scale_of(words, parser)
+    scale, file = scale_of(words)
     program = words.program or found_program()
     with opened(program, words.store) as session:
         layers = layers_of(session)
@@ -144,21 +134,13 @@ def other_layers(path: pathlib.Path, layers: Layers, file: pathlib.Path, scale: 
     return [f"{path}: {what}: {file} was written for other ones"]
 
 
-def worked(make: Callable[[], Map], write: Callable[[Map], int], errors: TextIO) -> int:
-    """The status of a subcommand, and its notes."""
+def run(words: Words, write: Writer, many: bool = False, grid: GridFor | None = None) -> int:
+    """Runs a subcommand: asks for the map, says its notes, and has it written."""
     try:
-        made = make()
-        for note in made.notes:
-            print(note, file=errors)
-        return write(made)
+        found = map_of(words, many, grid)
+        for note in found.notes:
+            print(note, file=sys.stderr)
+        return write(found, words)
     except Unusable as fault:
-        print(fault, file=errors)
+        print(fault, file=sys.stderr)
         return 1
-
-
-def run(parser: argparse.ArgumentParser, arguments: list[str], write: Writer, output: TextIO | None,
-        errors: TextIO | None, many: bool = False) -> int:
-    """Runs a subcommand: reads its words, asks for the map, and has it written."""
-    words = parser.parse_args(arguments)
-    target, notes = output or sys.stdout, errors or sys.stderr
-    return worked(lambda: map_of(words, parser, many), lambda found: write(found, words, target, notes), notes)

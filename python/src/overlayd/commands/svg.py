@@ -1,30 +1,31 @@
 """Draws a layer of overlayd: base edges thin, its boundary bold, its inside shaded, the columns of its tiles.
 
     overlay svg --store map.db --layer I > picture.svg
-    overlay svg --store map.db --layer I --grid 60 > points.svg
+    overlay svg --store map.db --layer I --points 60 > points.svg
 
 The base layers are those that the layer's definition reaches, filled by even-odd. Above each column is its number
-and how many pieces its tile has. With --grid N points are drawn: full where in, a ring where edge, small where out.
+and how many pieces its tile has. With --points N are drawn: full where in, a ring where edge, small where out.
 Where a scale is there, a bar of it and the corners of the picture are reported. Coordinates of the picture are rounded
 to a hundredth of a unit.
 
 Status 0: the picture is whole; 1: it is not, there is none, or it cannot be written.
 """
 
-import argparse
 import html
 import math
 import sys
 from collections.abc import Callable
-from typing import Any, TextIO
+from typing import Any
+
+import click
 
 from ..geometry.areas import Ring
 from ..geometry.rings import polygons_of
 from ..grid import limits, scale as scales
 from ..program import Piece, Point as Corner
 from ..store.layers import Columns, Layers, pieces_of
+from ..words import Words, option, subcommand
 from . import store_layers
-from .parsing import Parser
 from .store_layers import Grid, Map
 
 COLOURS = ("#1f77b4", "#d9730d", "#2a8f4d", "#9c3fb0", "#8a6d3b", "#0f8b8d", "#c2407a", "#5c6470")
@@ -199,34 +200,24 @@ def grid_for(layers: Layers, count: int) -> tuple[int, ...] | None:
     return (left, low, step, min(limits.GRID_MAX, across // step + 1), min(limits.GRID_MAX, up // step + 1))
 
 
-def parser_of() -> argparse.ArgumentParser:
-    parser = Parser(description=__doc__, formatter_class=argparse.RawDescriptionHelpFormatter)
-    store_layers.add_words(parser)
-    parser.add_argument("--grid", type=int, metavar="N",
-                        help=f"ask for a GRID of about N points across (1 to {limits.GRID_MAX}), and draw it")
-    parser.add_argument("--width", type=int, default=800, help="of the picture (default 800)")
-    store_layers.add_scale_words(parser)
-    return parser
+@subcommand(
+    __doc__, *store_layers.words(),
+    option("--points", f"ask for a GRID of about N points across (1 to {limits.GRID_MAX}), and draw it",
+           click.IntRange(1, limits.GRID_MAX), metavar="N"),
+    option("--width", "of the picture, 100 or more (default 800)", click.IntRange(100), default=800),
+    *store_layers.scale_words())
+def command(words: Words) -> int:
+    count = words.points
 
-
-def main(arguments: list[str], output: TextIO | None = None, errors: TextIO | None = None) -> int:
-    parser = parser_of()
-    words = parser.parse_args(arguments)
-    if words.width < 100 or (words.grid is not None and not 1 <= words.grid <= limits.GRID_MAX):
-        parser.error(f"the width is at least 100, the grid 1 to {limits.GRID_MAX}")
-    target, errors = output or sys.stdout, errors or sys.stderr
-    count = words.grid
-
-    def write(found: Map) -> int:
+    def write(found: Map, _: Words) -> int:
         faults: list[str] = []
         ((layer, answers),) = found.columns.items()
         if count and not found.grid:
             faults.append(f"{layer}: it gave no grid")
         scale = found.scale if found.scaled_by or words.factor or words.origin else None
-        target.write(picture(found.layers, layer, answers, words.width, faults.append, scale, found.grid))
+        sys.stdout.write(picture(found.layers, layer, answers, words.width, faults.append, scale, found.grid))
         for text in faults:
-            print(text, file=errors)
+            print(text, file=sys.stderr)
         return 1 if faults else 0
 
-    grid = (lambda layers: grid_for(layers, count)) if count else None
-    return store_layers.worked(lambda: store_layers.map_of(words, parser, grid=grid), write, errors)
+    return store_layers.run(words, write, grid=(lambda layers: grid_for(layers, count)) if count else None)

@@ -23,26 +23,26 @@ all others are answered. Within a name, or what was typed, a tab or the end of a
 Status 0: all points are answered; 1: one is not, or the output cannot be written.
 """
 
-import argparse
 import csv
 import pathlib
 import sys
 from collections.abc import Callable, Iterator
 from dataclasses import dataclass, field
 from fractions import Fraction
-from typing import TextIO
+
+import click
 
 from .. import ending
 from ..ending import Unusable
 from ..grid import limits, scale as scales
 from ..grid.scale import Scale
 from ..program import Point as Corner, Session
-from ..program_files import PROGRAM_HELP, found_program
+from ..program_files import found_program
 from ..store import features
 from ..store.features import FeaturesFault, Outline, Table
 from ..store.layers import Layers
 from ..store.opening import layers_of, opened
-from .parsing import Parser
+from ..words import FILE, PROGRAM, Words, argument, flag, option, subcommand
 from .store_layers import other_layers, scale_beside
 
 OUTSIDE = 0
@@ -203,7 +203,7 @@ def point_of(line: str) -> Point:
     return Point(line, (x, y))
 
 
-def read_points(words: argparse.Namespace) -> list[Point]:
+def read_points(words: Words) -> list[Point]:
     """The points of the words, or of the lines of the file that are not blank and no comments."""
     if words.points is None:
         return [point_of(" ".join(words.numbers))]
@@ -251,23 +251,7 @@ def texts(points: list[Point], corners: list[Corner | None], answers: Iterator[A
             yield answer.text(), True
 
 
-def parser_of() -> argparse.ArgumentParser:
-    parser = Parser(description=__doc__, formatter_class=argparse.RawDescriptionHelpFormatter)
-    parser.add_argument("numbers", metavar="X Y", nargs="*", help="a point")
-    parser.add_argument("--store", metavar="FILE", type=pathlib.Path, action="append", required=True,
-                        help="a store; it is not changed")
-    told = parser.add_mutually_exclusive_group()
-    told.add_argument("--names", metavar="FILE", type=pathlib.Path, help="NAME.names.csv of overlay import --coded")
-    told.add_argument("--layers", action="store_true", help="name layers, also where features are known")
-    parser.add_argument("--points", metavar="FILE", type=pathlib.Path,
-                        help="a point on each line; blank lines and # lines are passed over; - is standard input")
-    parser.add_argument("--scale", metavar="FILE", type=pathlib.Path,
-                        help="what whole numbers mean (default: NAME.scale.json beside the store NAME.*)")
-    parser.add_argument("--program", metavar="PATH", help=PROGRAM_HELP)
-    return parser
-
-
-def work(words: argparse.Namespace, output: TextIO, errors: TextIO) -> int:
+def work(words: Words) -> int:
     """Asks for all points and writes a line for each; the status."""
     points = read_points(words)
     program = words.program or found_program()
@@ -286,21 +270,30 @@ def work(words: argparse.Namespace, output: TextIO, errors: TextIO) -> int:
     found = [answers_of(program, store, tables.get(place), asking_for, check)
              for place, store in enumerate(words.store, 1)]
     for text in notes:
-        print(text, file=errors)
+        print(text, file=sys.stderr)
     status = 0
     for text, is_answered in texts(points, corners, (joined(list(own)) for own in zip(*found, strict=True)), scale):
-        print(text, file=output)
+        print(text)
         status = status if is_answered else 1
     return status
 
 
-def main(arguments: list[str], output: TextIO | None = None, errors: TextIO | None = None) -> int:
-    parser = parser_of()
-    words = parser.parse_args(arguments)
+@subcommand(
+    __doc__, argument("numbers", metavar="[X Y]", nargs=-1),
+    option("--store", "a store; it is not changed", FILE, metavar="FILE", multiple=True, required=True),
+    option("--names", "NAME.names.csv of overlay import --coded", FILE, metavar="FILE"),
+    flag("--layers", "name layers, also where features are known"),
+    option("--points", "a point on each line; blank lines and # lines are passed over; - is standard input", FILE,
+           metavar="FILE"),
+    option("--scale", "what whole numbers mean (default: NAME.scale.json beside the store NAME.*)", FILE,
+           metavar="FILE"), PROGRAM)
+def command(words: Words) -> int:
+    if words.names and words.layers:
+        raise click.UsageError("--names and --layers are two answers")
     if len(words.numbers) != (2 if words.points is None else 0):
-        parser.error("either a point X Y or --points FILE")
+        raise click.UsageError("either a point X Y or --points FILE")
     try:
-        return work(words, output or sys.stdout, errors or sys.stderr)
+        return work(words)
     except Unusable as fault:
-        print(fault, file=errors or sys.stderr)
+        print(fault, file=sys.stderr)
         return 1

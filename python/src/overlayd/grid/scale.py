@@ -12,7 +12,6 @@ code, or Well-Known Text where no authority has the system (coordinate_systems.p
 those of a plane that is nowhere on the earth.
 """
 
-import argparse
 import contextlib
 import json
 import math
@@ -77,7 +76,7 @@ def crs(word: str) -> str:
     found = crs_called(word.strip()) or word.strip()
     if not CRS_NAME.fullmatch(found):
         digits = f"; EPSG:{found}?" if found.isdecimal() else ""
-        raise argparse.ArgumentTypeError(f"{word}: an authority and its code are wanted, as EPSG:25832{digits}")
+        raise ValueError(f"{word}: an authority and its code are wanted, as EPSG:25832{digits}")
     return found
 
 

@@ -3,7 +3,6 @@
 
 from __future__ import annotations
 
-import argparse
 import contextlib
 import multiprocessing
 import os
@@ -19,6 +18,7 @@ from ..grid import scale as scales
 from ..program import MOST_SESSIONS, Ended, Refused, Server
 from ..program_files import found_program
 from ..store import features
+from ..words import Words
 from .by_waitress import serve
 from .feature_store import FeatureStore, Unlike
 from .front import Front
@@ -33,21 +33,21 @@ PATIENCE = 300.0
 """How many seconds a session waits for a reply before it is late."""
 
 
-def scale_of(words: argparse.Namespace) -> MapScale:
+def scale_of(words: Words) -> MapScale:
     """The scale of the words, or of the sidecar, or that of whole numbers."""
     beside = scales.beside(words.store) if words.store else None
     path = words.scale or (beside if beside and beside.is_file() else None)
     return MapScale(scales.read(path) if path else scales.Scale())
 
 
-def features_of(words: argparse.Namespace, store: LayerStore) -> FeatureStore | None:
+def features_of(words: Words, store: LayerStore) -> FeatureStore | None:
     """The features of the words, or of the file beside the store, or none."""
     beside = features.beside(words.store) if words.store and not words.create else None
     path = words.features or (beside if beside and beside.is_file() else None)
     return None if path is None or words.no_features else FeatureStore(store, path, parts=words.parts)
 
 
-def systems_of(words: argparse.Namespace, scale: MapScale) -> Systems:
+def systems_of(words: Words, scale: MapScale) -> Systems:
     """The systems that a store is served in: a projected one as CRS84 too."""
     projected = scale.crs is not None and not scale.is_geographic() and not words.as_stored
     return Systems(scale, by_pyproj(str(scale.crs)) if projected else None)
@@ -70,7 +70,7 @@ class Ending:
 
 
 @contextlib.contextmanager
-def opened(words: argparse.Namespace, ending: Ending) -> Iterator[tuple[Server, LayerStore]]:
+def opened(words: Words, ending: Ending) -> Iterator[tuple[Server, LayerStore]]:
     """The running process over the store, and its layers; where one of them is lost the front ends."""
     scale, reads = scale_of(words), not words.writable
     with contextlib.ExitStack() as open_ones:
@@ -114,7 +114,7 @@ def watch_sessions(_: Server, __: Scratch, store: LayerStore, ending: Ending) ->
     ending.end(f"overlay_live does not answer: {', '.join(store.lost())}")
 
 
-def run(words: argparse.Namespace, hosts: set[str]) -> int:
+def run(words: Words, hosts: set[str]) -> int:
     """Serves what the words of the command say, under the names of hosts, and gives the status at its end."""
     ending = Ending()
     for number in (signal.SIGTERM, signal.SIGALRM):
