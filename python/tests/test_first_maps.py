@@ -13,6 +13,7 @@ import urllib.request
 from typing import Any
 
 from overlayd.commands import show as first_map
+from overlayd.commands.show_folder import MARK
 from overlayd.files import map_reading, writing
 from .common import OVERLAY, WithProgram, outcome, path
 from .test_feature_files import EAST, ISLE, MAP, WEST, collection, feature
@@ -48,12 +49,12 @@ class FirstMaps(WithProgram):
     def claimed(self) -> pathlib.Path:
         """The same, as a run that was broken off has left it."""
         self.own().mkdir(parents=True)
-        (self.own() / first_map.MARK).touch()
+        (self.own() / MARK).touch()
         return self.own()
 
     def names(self, name: str = "city") -> list[str]:
         """What is in it beside its mark; nothing where it is not there."""
-        return (sorted({one.name for one in self.own(name).iterdir()} - {first_map.MARK}) if self.own(name).is_dir()
+        return (sorted({one.name for one in self.own(name).iterdir()} - {MARK}) if self.own(name).is_dir()
                 else [])
 
     def asked(self, address: str, page: str) -> Any:

@@ -96,9 +96,9 @@ def refusal_of(line: str) -> Refused | None:
     return Refused(int(found[2]), found[3], int(found[1]) if found[1] else None) if found else None
 
 
-def fault_of_start(told: str) -> Refused | None:
+def fault_of_start(errors: str) -> Refused | None:
     """The refusal of a program that did not start: a second line, where it has one, says of which file and why."""
-    first, *more = told.splitlines() or [""]
+    first, *more = errors.splitlines() or [""]
     fault = refusal_of(first)
     return Refused(fault.number, ": ".join([fault.text, *more])) if fault else None
 
@@ -559,10 +559,10 @@ class Server:
         try:
             self.sessions[0].layers()
         except BaseException as fault:
-            status, told = self.close()
+            status, errors = self.close()
             if not isinstance(fault, Ended):
                 raise
-            raise fault_of_start(told) or Ended(f"the program ended with status {status}: {told}") from None
+            raise fault_of_start(errors) or Ended(f"the program ended with status {status}: {errors}") from None
 
     def session(self, *, slow: bool = False, timeout: float = 30) -> contextlib.AbstractContextManager[Session]:
         """Lends a session to one thread, `with server.session() as session:`; slow for what may sleep: WAIT, SYNC.
@@ -579,13 +579,13 @@ class Server:
         for one in self.sessions:
             one.close()
         try:
-            _, told = self.process.communicate(timeout=timeout)
+            _, errors = self.process.communicate(timeout=timeout)
         except subprocess.TimeoutExpired:
             self.process.kill()
-            _, told = self.process.communicate()
+            _, errors = self.process.communicate()
         except ValueError:  # closed before
-            told = b""
-        return self.process.returncode, told.decode(errors="replace").strip()
+            errors = b""
+        return self.process.returncode, errors.decode(errors="replace").strip()
 
     def __enter__(self) -> Server:
         return self

@@ -69,15 +69,15 @@ class Answer:
     fault: str | None = None
 
     def text(self) -> str:
-        told = self.within if self.edge is None else ["edge", *self.edge, *self.within]
-        return "\t".join(name.translate(BLANKS) for name in told)
+        names = self.within if self.edge is None else ["edge", *self.edge, *self.within]
+        return "\t".join(name.translate(BLANKS) for name in names)
 
 
 def of_layers(names: list[str], answers: list[str]) -> Answer:
     """The answer of layers that are no bits."""
-    told = list(zip(names, answers, strict=True))
-    edge = [name for name, answer in told if answer == "edge"]
-    return Answer([name for name, answer in told if answer == "in"], edge or None)
+    places = list(zip(names, answers, strict=True))
+    edge = [name for name, answer in places if answer == "edge"]
+    return Answer([name for name, answer in places if answer == "in"], edge or None)
 
 
 def of_bits(table: dict[int, str], answers: list[str]) -> Answer:
@@ -97,8 +97,8 @@ def of_features(outlines: list[Outline], corner: Corner, answers: list[str]) -> 
     """The answer of coded layers as their features have it: off all outlines both must spell one number."""
     within, edge = features.at(outlines, corner)
     number = 0 if edge else features.spelled_by(within)
-    told = {"in": 1, "out": 0}
-    if any(told.get(answer, number >> bit & 1) != number >> bit & 1 for bit, answer in enumerate(answers) if not edge):
+    bits = {"in": 1, "out": 0}
+    if any(bits.get(answer, number >> bit & 1) != number >> bit & 1 for bit, answer in enumerate(answers) if not edge):
         return Answer(fault="the features there are not those of the layers' answers")
     names = [feature.name for feature in within]
     return Answer(names, [feature.name for feature in edge] or None)
@@ -229,8 +229,8 @@ def question(x: Fraction, y: Fraction, scale: Scale, say: Callable[[str], None])
 
 
 def shortened(typed: str) -> str:
-    told = typed.translate(BLANKS)
-    return told if len(told) <= TYPED_MAX else told[:TYPED_MAX] + " .."
+    text = typed.translate(BLANKS)
+    return text if len(text) <= TYPED_MAX else text[:TYPED_MAX] + " .."
 
 
 def out_of_range(scale: Scale) -> str:

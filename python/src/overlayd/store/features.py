@@ -192,10 +192,10 @@ def unlike(table: Table, held: Held) -> str | None:
 
 def differing(table: Table, layer: str, lacking: Counter[str], foreign: Counter[str]) -> str:
     """How the rings of a layer are not those of its features, in words."""
-    told = [f"layer {layer} lacks {lacking.total()} of its features' rings"] if lacking else []
-    told += [f"layer {layer} has {foreign.total()} rings that none of its features has"] if foreign else []
+    faults = [f"layer {layer} lacks {lacking.total()} of its features' rings"] if lacking else []
+    faults += [f"layer {layer} has {foreign.total()} rings that none of its features has"] if foreign else []
     whose = [one.name for one in table.features if layer in one.layers and one.digests() & lacking]
-    return " and ".join(told) + (f"; the first is of {whose[0]}" if whose else "")
+    return " and ".join(faults) + (f"; the first is of {whose[0]}" if whose else "")
 
 
 def resolved(table: Table, held: Held, of: object) -> Table:

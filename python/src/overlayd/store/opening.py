@@ -40,7 +40,7 @@ def opened(program: str, store: pathlib.Path | None = None) -> Iterator[Session]
         server = Server(store, read_only=store is not None, max_blocks=limits.BLOCKS_MAX if store else None,
                         program=program)
     except Refused as fault:
-        raise Unusable(f"{store or program}: {refusal_told(fault, store)}") from fault
+        raise Unusable(f"{store or program}: {refusal_text(fault, store)}") from fault
     except Ended as fault:
         raise Unusable(f"{program}: {fault}") from fault
     except OSError as fault:
@@ -53,7 +53,7 @@ def opened(program: str, store: pathlib.Path | None = None) -> Iterator[Session]
         server.close()
 
 
-def refusal_told(fault: Refused, store: pathlib.Path | None) -> str:
+def refusal_text(fault: Refused, store: pathlib.Path | None) -> str:
     """Why a store is not opened. The program names it in the second line of its fault, and says there why."""
     name = os.fspath(store or "")
     text = fault.text.removesuffix(f": {name}").replace(f": {name}: ", ": ")

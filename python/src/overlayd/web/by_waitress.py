@@ -19,7 +19,7 @@ from .front import HEADERS, Front, refusal
 from .pages import BODY_MOST
 from .serving import (
     ANSWER_SECONDS, LINE_MOST, PORT_MOST, QUIET_SECONDS, REQUEST_SECONDS, THREADS, Unheard, connections_most,
-    tell_fewer, told,
+    tell_fewer, print_address,
 )
 
 
@@ -102,5 +102,5 @@ def serve(front: Front, host: str, port: int) -> None:
     except (OSError, ValueError) as fault:  # a ValueError for a name that nobody has
         raise Unheard(host, port, fault) from fault
     tell_fewer(connections_most())
-    told(host, server.effective_port)
+    print_address(host, server.effective_port)
     server.run()

@@ -122,8 +122,8 @@ class FeatureStore:
         within, edge = features.at(state.outlines.values(), question)
         if state.table.coded and not edge:
             number = features.spelled_by(within)
-            told = view.locate(state.table.layers, question)
-            wrong = [name for name, place in told.items() if place != "edge" and (place == "in") != has(number, name)]
+            found = view.locate(state.table.layers, question)
+            wrong = [name for name, place in found.items() if place != "edge" and (place == "in") != has(number, name)]
             if wrong:
                 raise Unlike(f"layer {wrong[0]} answers otherwise than the features that it holds")
         return [(one, "in") for one in within] + [(one, "edge") for one in edge]

@@ -200,9 +200,9 @@ class FeaturesApi:
         if given in self.systems.uris or given is None:
             return given
         known = " or ".join(self.systems.uris)
-        told = f"it is {known}" if known else "and the layers are in a plane without a name: leave it out"
+        other = f"it is {known}" if known else "and the layers are in a plane without a name: leave it out"
         raise Problem(
-            400, f"{word}: {'no other is known' if self.systems.projection else 'nothing is transformed'}, {told}")
+            400, f"{word}: {'no other is known' if self.systems.projection else 'nothing is transformed'}, {other}")
 
     def _asked(self, bbox: list[Fraction] | None, bbox_crs: str | None, crs: str | None, limit: int, offset: int,
                datetime: str | None) -> Asked:

@@ -244,8 +244,8 @@ class LayerStore:
 
     def must_be_written(self) -> None:
         """Refuses a change where the store is not written any more."""
-        if self._rescue and self._rescue.told:
-            raise NotWritten(f"nothing is changed: {self._rescue.told}")
+        if self._rescue and self._rescue.reason:
+            raise NotWritten(f"nothing is changed: {self._rescue.reason}")
 
     def change(self, lines: Sequence[str], *, own: bool = False) -> int:
         """Accepts commands as one version, whose number it gives. With a file, it is durable before this returns.
@@ -290,7 +290,7 @@ class LayerStore:
 
     def lost(self) -> list[str]:
         """What the front has lost, in words: sessions whose replies are late, and the store where it is not written."""
-        found = [text for text in (self._gone, self._rescue and self._rescue.told) if text]
+        found = [text for text in (self._gone, self._rescue and self._rescue.reason) if text]
         for kind, pool in (("questions", self._server.quick), ("changes", self._server.slow)):
             since = pool.lost()
             if since:

@@ -62,13 +62,13 @@ class MapApi:
 
     @page("GET", f"{LAYER}/locate", "locate", "where a point lies in a collection", "located", *POINT)
     def locate(self, name: str, x: Fraction, y: Fraction) -> Response:
-        question, told = self._question(x, y)
+        question, answer = self._question(x, y)
         with self.store.view() as view:
             if self.maps and name == self.maps.name:
-                told["features"] = self._features(view, question)
-                return sent(told)
-            told["place"] = view.locate([name], question)[name]
-        return sent(told)
+                answer["features"] = self._features(view, question)
+                return sent(answer)
+            answer["place"] = view.locate([name], question)[name]
+        return sent(answer)
 
     def _features(self, view: View, question: Point) -> list[dict[str, object]]:
         """The features that have a point, with all that they are but their outlines."""
@@ -82,13 +82,13 @@ class MapApi:
     @page("GET", "/locate", "locateAll", "where a point lies in each layer, and the features that have it",
           "locatedAll", *POINT)
     def locate_all(self, x: Fraction, y: Fraction) -> Response:
-        question, told = self._question(x, y)
+        question, answer = self._question(x, y)
         with self.store.view() as view:
             hidden = self.maps.hidden(self.maps.state(view).table) if self.maps else set()
-            told["places"] = view.locate([name for name in view.layers if name not in hidden], question)
+            answer["places"] = view.locate([name for name in view.layers if name not in hidden], question)
             if self.maps:
-                told["features"] = self._features(view, question)
-        return sent(told)
+                answer["features"] = self._features(view, question)
+        return sent(answer)
 
     def _question(self, x: Fraction, y: Fraction) -> tuple[Point, dict[str, object]]:
         """What LOCATE is asked, and what the answer says of it: the point that was asked, and whether it is as given.
@@ -98,8 +98,8 @@ class MapApi:
         question = self.scale.scale.question(x, y)
         if max(abs(question[0]), abs(question[1])) > limits.COORDINATE_MAX * question[2]:
             system = self.systems.storage or coordinate_systems.shown(self.scale.scale.crs)
-            told = f"; x and y, in this order, are those of {system}" if self.scale.scale.crs else ""
-            raise Refused(OUT_OF_RANGE, f"point out of range: it is out of the plane{told}")
+            order = f"; x and y, in this order, are those of {system}" if self.scale.scale.crs else ""
+            raise Refused(OUT_OF_RANGE, f"point out of range: it is out of the plane{order}")
         point = self.scale.scale.world(question)
         return question, {"asked": question, "point": [self.scale.number(n) for n in point], "exact": point == (x, y)}
 

@@ -174,13 +174,14 @@ class MapFeatures(FeaturesApi):
             raise Problem(422 if isinstance(fault, Unfit) else 400, str(fault)) from fault
         except ChangeFault as fault:
             raise Problem(409, str(fault)) from fault
-        told: dict[str, object] = {"version": done.version, "durable": self.store.durable if self.store.kept else None}
+        durable = self.store.durable if self.store.kept else None
+        answer: dict[str, object] = {"version": done.version, "durable": durable}
         if done.feature is None or given is None:
-            return sent(told)
+            return sent(answer)
         revision, at = done.feature.revision(), f"{g.root}/collections/{self.maps.name}/items/{done.feature.id}"
-        told |= {"id": done.feature.id, "revision": revision, "moved": float(given.moved)}
+        answer |= {"id": done.feature.id, "revision": revision, "moved": float(given.moved)}
         headers = {"ETag": f'"{revision}"', **({"Location": at} if status == 201 else {})}
-        return sent(told, status=status, headers=headers)
+        return sent(answer, status=status, headers=headers)
 
 
 class Body:

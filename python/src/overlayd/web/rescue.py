@@ -32,15 +32,15 @@ class Rescue:
     """Over a store and the program that has it. end: called with the reason once a copy is in the store's place."""
 
     def __init__(self, store: pathlib.Path, program: str, end: Callable[[str], None]) -> None:
-        self.told: str | None = None
+        self.reason: str | None = None
         self._store, self._program, self._end = store, program, end
         self._beginning = threading.Lock()
 
     def begin(self, fault: Refused) -> None:
         """Begins to try, where it has not begun, upon what a SYNC was refused by."""
         if fault.number in NOT_WRITTEN and self._beginning.acquire(blocking=False):
-            self.told = f"the store is not written any more: {fault}"
-            threading.Thread(target=self._try, args=(self.told,), daemon=True).start()
+            self.reason = f"the store is not written any more: {fault}"
+            threading.Thread(target=self._try, args=(self.reason,), daemon=True).start()
 
     def _try(self, why: str) -> None:
         while True:
@@ -48,7 +48,7 @@ class Rescue:
                 put_copy(self._store, self._program)
                 break
             except (OSError, Refused, Ended) as fault:
-                self.told = f"{why}; a copy takes its place as soon as it can: {fault}"
+                self.reason = f"{why}; a copy takes its place as soon as it can: {fault}"
                 time.sleep(AGAIN)
         self._end(f"{self._store}: {why}; a copy is in its place, to be opened anew")
 
@@ -79,9 +79,9 @@ def put_copy(store: pathlib.Path, program: str) -> None:
 def open_once(store: str, program: str) -> None:
     """Has the program open a store and end: what it cannot open takes no other's place."""
     with Server(store, workers=1, program=program) as server:
-        status, told = server.close()
+        status, text = server.close()
     if status:
-        raise Ended(f"the copy could not be opened: {told}")
+        raise Ended(f"the copy could not be opened: {text}")
 
 
 def keep_owner(place: pathlib.Path, name: str) -> None:

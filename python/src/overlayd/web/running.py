@@ -132,7 +132,7 @@ def run(words: Words, hosts: set[str]) -> int:
                 for number in (signal.SIGTERM, signal.SIGALRM):
                     signal.signal(number, signal.SIG_IGN)
             reason = ending.reason
-            status, told = server.close()
+            status, text = server.close()
             for child in multiprocessing.active_children():  # what it joins nobody will ask for
                 child.kill()
     except (Unheard, Unusable) as fault:
@@ -150,5 +150,5 @@ def run(words: Words, hosts: set[str]) -> int:
     if status and not reason:
         reason = f"overlay_live has ended with status {status}"
     if reason:
-        print("; ".join([reason, *told.splitlines()]), file=sys.stderr)
+        print("; ".join([reason, *text.splitlines()]), file=sys.stderr)
     return 1 if reason else 0

@@ -25,17 +25,17 @@ class Unheard(Exception):
     """Why nobody can listen at an address."""
 
     def __init__(self, host: str, port: int, reason: object) -> None:
-        super().__init__(f"{host} port {port}: {told_of(reason)}")
+        super().__init__(f"{host} port {port}: {reason_text(reason)}")
 
 
-def told_of(reason: object) -> str:
+def reason_text(reason: object) -> str:
     """A reason in words; where another program listens, with what to do."""
     if isinstance(reason, OSError) and reason.errno == errno.EADDRINUSE:
         return "another program listens there; say another --port, or 0 for a free one"
     return str(isinstance(reason, OSError) and reason.strerror or reason)
 
 
-def told(host: str, port: int) -> None:
+def print_address(host: str, port: int) -> None:
     print(f"http://{f'[{host}]' if ':' in host else host}:{port}/", flush=True)
 
 
