@@ -6,8 +6,9 @@ import subprocess
 import zipfile
 from typing import Any
 
-from overlayd.commands import export as to_geojson, import_ as to_script, maps as overlay_maps
+from overlayd.commands import export as to_geojson, import_ as to_script, pairs, pieces
 from overlayd.files import coordinate_systems
+from overlayd.kernel import Ask
 from .common import OVERLAY, SECONDS, Programs, outcome
 from .test_forms import WithGdal
 
@@ -85,12 +86,12 @@ class WithSystems(WithGdal):
 
     def overlay(self, first: pathlib.Path, second: pathlib.Path, end: str) -> Any:
         """The system of the pieces of two maps."""
-        if not Programs.live:
-            self.skipTest("no overlay_live was given")
+        if Programs.features is None or not Ask(Programs.features).makes_outlines():
+            self.skipTest("no built overlay_features that makes outlines: --features names it")
         path = self.folder / f"pieces{end}"
-        words = ["pieces", first, second, "--factor", 10, "--pieces", path, "--program", Programs.live, "--jobs", 1,
+        words = [first, second, "--factor", 10, "--pieces", path, "--program", Programs.features, "--jobs", 1,
                  "--no-audit"]
-        status, _, errors = outcome(overlay_maps, *words)
+        status, _, errors = outcome(pieces, *words)
         self.assertEqual(status, 0, errors)
         return self.system(path)
 
@@ -171,7 +172,7 @@ class Nameless(WithSystems):
     def test_maps_of_different_systems_are_refused_by_their_names(self) -> None:
         first = self.shapefile(OLINDA, "first")
         second = self.shapefile(text_of("EPSG:4674"), "second")
-        status, _, errors = outcome(overlay_maps, "pairs", first, second, "--factor", 1, "--program", self.model())
+        status, _, errors = outcome(pairs, first, second, "--factor", 1, "--program", self.model())
         self.assertEqual((status, errors.splitlines()[-1]), (
             2, f'{first} has coordinates of "GRS 1980(IUGG, 1980)", {second} of EPSG:4674: bring one to those of the '
                "other, as by ogr2ogr -t_srs"))
@@ -188,8 +189,8 @@ class Units(WithSystems):
                 file = self.shapefile(text_of(system))
                 self.ran("import", file, "--factor", 10, "--output", self.folder / "out.txt")
                 self.assertEqual(json.loads((self.folder / "out.scale.json").read_text())["unit"], unit, system)
-                if Programs.live:
-                    told = self.ran("check", file, "--factor", 10, "--program", Programs.live)
+                if Programs.features:
+                    told = self.ran("check", file, "--factor", 10, "--program", Programs.features)
                     several = {"US survey foot": "US survey feet"}.get(unit, f"{unit}s")
                     self.assertIn(f"areas are in square {several}, widths in {several}\n", told, system)
         self.ran("import", self.shapefile(None), "--factor", 10, "--output", self.folder / "out.txt")
@@ -214,9 +215,9 @@ class Unknown(WithSystems):
         path = self.shapefile(None)
         for end in (".geojson", ".gpkg"):
             self.assertTrue(self.overlay(path, path, end).IsLocal(), end)
-        words = ["pairs", path, path, "--factor", 1, "--program", Programs.live, "--jobs", 1]
+        words = [path, path, "--factor", 1, "--program", Programs.features, "--jobs", 1]
         for text in (None, "PROJCS[broken"):
-            status, _, errors = outcome(overlay_maps, *words[:1], self.shapefile(text), *words[2:])
+            status, _, errors = outcome(pairs, self.shapefile(text), *words[1:])
             told = f"{path}: its coordinate system is unknown, as the file does not say it\n"
             self.assertEqual((status, told in errors), (0, True), errors)
         degrees = self.folder / "map.geojson"  # what GeoJSON without a name has stays

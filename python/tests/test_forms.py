@@ -12,9 +12,9 @@ import unittest.mock
 from fractions import Fraction
 
 from overlayd.commands import export as to_geojson, import_ as to_script
-from overlayd.files import coordinate_systems, gdal_files, geojson_maps, map_reading, writing
-from overlayd.geometry.whole_maps import MapFault
-from overlayd.maps import running
+from overlayd.commands import map_words
+from overlayd.files import coordinate_systems, gdal_files, map_reading, text_columns, writing
+from overlayd.files.arrow_reading import ReadingFault
 from .common import OVERLAY, SECONDS, SQUARE, InFolder, on_file, outcome
 from .test_maps import COUNTIES, area_of_script
 
@@ -251,15 +251,15 @@ class OwnTexts(InFolder):
             file = self.file(name, gzip.compress(text.encode()))
             for words in ((), ("--source-layer", "one")):
                 self.assertEqual(outcome(to_script, file, *words), (2, "", f"{file}: not read: {told}\n"))
-            with self.assertRaisesRegex(MapFault, f"{name}: {re.escape(told)}$"):
-                running.form_of(str(file))
+            with self.assertRaisesRegex(ReadingFault, f"{name}: {re.escape(told)}$"):
+                map_words.form_of(str(file))
         with unittest.mock.patch("sys.stdin") as given:
             given.buffer.read.return_value = gzip.compress(FIRST.encode())
             self.assertEqual(outcome(to_script, "-"), (2, "", f"-: not read: {told}\n"))
         pipe = self.piped(gzip.compress(FIRST.encode()))
         self.assertEqual(outcome(to_script, pipe), (2, "", f"{pipe}: not read: {told}\n"))
-        with self.assertRaisesRegex(MapFault, re.escape(told)):
-            geojson_maps.read(self.piped(gzip.compress(FIRST.encode())), Fraction(1), None, False)
+        with self.assertRaisesRegex(ReadingFault, re.escape(told)):
+            text_columns.read(str(self.piped(gzip.compress(FIRST.encode()))), None)
 
     def test_sequences_of_features(self) -> None:
         whole = f'{{"type": "FeatureCollection", "features": [{FIRST}, {SECOND}]}}'

@@ -22,7 +22,7 @@ def ran(*words: object) -> subprocess.CompletedProcess[str]:
 
 class Helps(unittest.TestCase):
     def test_each_subcommand_says_what_it_does(self) -> None:
-        self.assertEqual(len(PURPOSES), 12)
+        self.assertEqual(len(PURPOSES), 13)
         for name in PURPOSES:
             done = ran(*OVERLAY, name, "--help")
             self.assertEqual((done.returncode, done.stderr), (0, ""), name)

@@ -15,8 +15,8 @@ import unittest
 from unittest import mock
 
 from overlayd import progress
-from overlayd.commands import maps as overlay_maps
-from overlayd.maps import dask_engine, engines, large_tables, planning, tasks, windows
+from overlayd.commands import pairs, task
+from overlayd.maps import dask_engine, engines, tasks
 from overlayd.maps.tasks import FolderFault, TaskFolder
 from .common import OVERLAY, SECONDS, SOURCES, TOP, InFolder, Programs, outcome
 from .map_works import Refusing, Reversing
@@ -123,8 +123,8 @@ class Folders(InTasks):
                 self.begun()
 
     def test_what_stands_in_a_plan_is_looked_at(self) -> None:
-        plans = ('{"form": 4}', '{"form": 4, "run": {}, "tasks": "7"}', '{"form": 4, "run": [], "tasks": 7}',
-                 '{"form": 4, "run": {}, "tasks": -1}', '{"form": 4, "run": {}, "tasks": true}', "[" * 100_000, "\xff")
+        plans = ('{"form": 5}', '{"form": 5, "run": {}, "tasks": "7"}', '{"form": 5, "run": [], "tasks": 7}',
+                 '{"form": 5, "run": {}, "tasks": -1}', '{"form": 5, "run": {}, "tasks": true}', "[" * 100_000, "\xff")
         for text in plans:
             self.work.mkdir(exist_ok=True)
             (self.work / "run.json").write_text(text, "latin-1")
@@ -317,124 +317,106 @@ class Dask(WithProcesses):
         self.assertEqual([folder.came_of(number) for number in done], [ENDS[number] for number in done])
 
 
-class OverTool(InTasks):
-    """The tool itself over the built program, by several engines: always the same bytes of table."""
+class OverCommand(InTasks):
+    """The command itself over the built program, by several engines: always the same bytes of table."""
 
     def setUp(self) -> None:
         super().setUp()
-        if Programs.live is None:
-            self.skipTest("no program was given")
-        self.enterContext(mock.patch.object(planning, "JOBS_OF_TASK", 9))
+        if Programs.features is None:
+            self.skipTest("no built overlay_features: --features names it")
         for name, shift in (("a", 0), ("b", 4)):
             self.file(f"{name}.geojson", json.dumps({"type": "FeatureCollection", "features": [
                 square(10 * x + shift, 10 * y + shift) for x in range(6) for y in range(6)]}))
 
     def table(self, *words: object, program: object = None) -> tuple[int, str, str]:
         maps = (self.folder / "a.geojson", self.folder / "b.geojson")
-        return outcome(overlay_maps, "pairs", *maps, "--factor", 1, "--program", program or Programs.live, *words)
+        return outcome(pairs, *maps, "--factor", 1, "--program", program or Programs.features, "--at-once", 9, *words)
 
     def test_all_engines_have_one_table(self) -> None:
-        status, table, _ = self.table("--jobs", 1)
-        self.assertEqual((status, table.count("overlaps")), (0, 36 + 2 * 30 + 25))  # of each square with up to four
-        self.assertEqual(self.table("--jobs", 2, "--work", self.work)[:2], (0, table))
+        status, table, _ = self.table("--processes", 1)
+        # Of each square with up to four, and with corners of others.
+        self.assertEqual((status, table.count("overlaps")), (0, 36 + 2 * 30 + 25))
+        self.assertEqual(self.table("--processes", 3)[:2], (0, table))
+        self.assertEqual(self.table("--processes", 2, "--work", self.work)[:2], (0, table))
         status, again, told = self.table("--jobs", 2, "--work", self.work)
         self.assertEqual((status, again), (0, table))
         self.assertRegex(told, r"pairs 1: (\d+) of \1 tasks were done before")
 
-    def test_windows_and_python_have_one_table_and_which_it_was_is_told(self) -> None:
-        status, table, told = self.table("--jobs", 1, "--no-window")
-        self.assertEqual(status, 0)
-        self.assertRegex(told, r"drawn in by overlay_window in 0 of \d+ tasks; the others and .* by Python")
-        window = windows.found(str(Programs.live))
-        if window is not None:
-            self.assertEqual(self.table("--jobs", 1, "--window", window, "--work", self.work)[:2], (0, table))
-            status, again, told = self.table("--jobs", 1, "--no-window", "--work", self.work)
-            self.assertEqual((status, again), (0, table))
-            self.assertRegex(
-                told, r"drawn in by overlay_window in (\d+) of \1 tasks; what is too large for a window by Python")
-        for wrong in (self.folder, self.folder / "none", ""):
-            self.assertEqual(self.table("--window", wrong),
-                             (2, "", f"--window {wrong}: no program; leave the word out, or "
-                              "say --no-window\n"))
-
-    def test_a_window_program_that_ends_is_asked_again_and_one_that_fails_is_named(self) -> None:
-        window = windows.found(str(Programs.live))
-        if window is None:
-            self.skipTest("overlay_window is not there")
-        dying = self.file("dying", f"#!/bin/sh\nmkdir '{self.marks}/ended' 2>&- && kill -9 $$\nexec {window}\n", 0o700)
-        self.assertEqual(self.table("--jobs", 1, "--window", dying)[:2], self.table("--jobs", 1)[:2])
-        never = self.file("never", "#!/bin/sh\nexit 3\n", 0o700)
-        status, table, told = self.table("--jobs", 1, "--window", never)
-        self.assertEqual((status, table), (1, ""))
-        self.assertRegex(told, "task 0: ProgramRefused: .*never: status 3, 0 answers of [0-9]+")
-
     @unittest.skipUnless(HAS_DASK, "python3-distributed is not installed")
     def test_dask_has_the_same_table(self) -> None:
-        words = [*OVERLAY, "pairs", self.folder / "a.geojson",
-                 self.folder / "b.geojson", "--factor", "1", "--program", Programs.live, "--jobs", "2", "--dask"]
+        words = [*OVERLAY, "pairs", self.folder / "a.geojson", self.folder / "b.geojson", "--factor", "1", "--program",
+                 Programs.features, "--processes", "2", "--at-once", "9", "--dask"]
         run = subprocess.run(words, capture_output=True, text=True, timeout=2 * WAIT, check=False)
-        self.assertEqual((run.returncode, run.stdout), (0, self.table("--jobs", 1)[1]), run.stderr)
+        self.assertEqual((run.returncode, run.stdout), (0, self.table("--processes", 1)[1]), run.stderr)
 
     def test_others_do_the_tasks(self) -> None:
-        status, _, told = self.table("--jobs", 0, "--work", self.work)
+        status, _, told = self.table("--processes", 0, "--work", self.work)
         count = TaskFolder(self.work / "1").count()
         self.assertEqual(status, 0)
         self.assertIn(f"{count} of {count} tasks are left", told)
-        words = [*OVERLAY, "task", self.work / "1", "--program", Programs.live]
+        words = [*OVERLAY, "task", self.work / "1", "--program", Programs.features]
         numbers = "".join(f"{number}\n" for number in range(count))
         subprocess.run(["xargs", "-P", "2", "-n", "7", *words], input=numbers, text=True, check=True, timeout=SECONDS)
-        self.assertEqual(self.table("--jobs", 0, "--work", self.work)[1], self.table("--jobs", 1)[1])
-        self.assertEqual(outcome(overlay_maps, *words[2:], count)[0], 2)
-        status, table, told = self.table("--jobs", 0)
-        self.assertEqual((status, table, told.splitlines()[-1][:24]), (2, "", "--jobs 0 leaves the task"))
-        self.assertEqual(outcome(overlay_maps, "task", self.folder, 0, "--program", Programs.live)[0], 2)
+        self.assertEqual(self.table("--processes", 0, "--work", self.work)[1], self.table("--processes", 1)[1])
+        self.assertEqual(outcome(task, *words[3:], count)[0], 2)
+        status, table, told = self.table("--processes", 0)
+        self.assertEqual((status, table, told.splitlines()[-1][:29]), (2, "", "--processes 0 leaves the task"))
+        self.assertEqual(outcome(task, self.folder, 0, "--program", Programs.features)[0], 2)
 
     def test_a_program_that_ends_is_begun_again(self) -> None:
         dying = self.file("dying", f"#!/bin/sh\nmkdir '{self.marks}/ended' 2>&- && exit\n"
-                          f"exec {Programs.live} \"$@\"\n", 0o700)
-        for jobs in (1, 2):
-            self.assertEqual(self.table("--jobs", jobs, program=dying)[:2], self.table("--jobs", jobs)[:2])
-            (self.marks / "ended").rmdir()
+                          f"exec {Programs.features} \"$@\"\n", 0o700)
         never = self.file("never", "#!/bin/sh\nexit 3\n", 0o700)
-        status, table, told = self.table("--jobs", 2, program=never)
-        self.assertEqual((status, table), (1, ""))
-        self.assertRegex(told, "task [01]: ProgramEnded: ")
+        for words in (("--processes", 1), ("--processes", 2), ("--processes", 2, "--work", self.work)):
+            self.assertEqual(self.table(*words, program=dying)[:2], self.table("--processes", 1)[:2])
+            (self.marks / "ended").rmdir()
+            status, table, told = self.table(*words[:2], *(("--work", self.folder / "never-done") if words[2:] else ()),
+                                             program=never)
+            self.assertEqual((status, table), (1, ""))
+            self.assertRegex(told, "task [01]: ProgramEnded: .*status 3" if words[2:] else "ended with status 3")
 
     def test_a_damaged_folder_is_told_and_mended_by_what_is_told(self) -> None:
-        status, table, _ = self.table("--jobs", 1, "--work", self.work)
+        status, table, _ = self.table("--processes", 1, "--work", self.work)
         result = self.work / "1" / "000002.result"
-        result.write_bytes(b"".join(result.read_bytes().splitlines(True)[:3]))
+        result.write_bytes(result.read_bytes()[:300])
         told = (f"{result}: damaged, as it has not the digest of what was written; remove it and say the same again, "
                 "which does")
         for words in ((), ("--out", self.folder / "out.csv")):
-            status, again, errors = self.table("--jobs", 1, "--work", self.work, *words)
+            status, again, errors = self.table("--processes", 1, "--work", self.work, *words)
             self.assertEqual((status, again), (2, ""))
             self.assertIn(told, errors)
         self.assertFalse((self.folder / "out.csv").exists())
         result.unlink()
-        self.assertEqual(self.table("--jobs", 1, "--work", self.work)[:2], (0, table))
+        self.assertEqual(self.table("--processes", 1, "--work", self.work)[:2], (0, table))
         result.unlink()
         (self.work / "1" / "000002.task").write_bytes(b"{}")
-        status, again, errors = self.table("--jobs", 2, "--work", self.work)
+        status, again, errors = self.table("--processes", 2, "--work", self.work)
         self.assertEqual((status, again), (1, ""))
         self.assertIn("task 2: ", errors)
         self.assertIn("000002.task: damaged, as it has not the digest of what was written; begin the run again", errors)
 
     def test_a_folder_of_another_run_is_refused(self) -> None:
-        self.table("--work", self.work, "--jobs", 1)
-        status, table, told = self.table("--work", self.work, "--bend")
+        self.table("--work", self.work, "--processes", 1)
+        status, table, told = self.table("--work", self.work, "--node")
         self.assertEqual((status, table), (2, ""))
-        self.assertIn("tasks of another run (bend: False there, True here)", told)
+        self.assertIn("tasks of another run (node: 'False' there, 'True' here)", told)
         (self.folder / "b.geojson").write_text(json.dumps({"type": "FeatureCollection", "features": [square(0, 0)]}))
         self.assertIn("tasks of another run (maps: ", self.table("--work", self.work)[2])
 
-
-class LargeTables(unittest.TestCase):
-    def test_runs_in_files_are_one_order(self) -> None:
-        rows = [(place * 7919 % 101, place) for place in range(1000)]
-        for at_once in (1, 10, 333, 1000, 5000):  # the first makes more runs than files may be open
-            self.assertEqual(list(large_tables.in_order(rows, lambda row: row[0], at_once)), sorted(rows))
-        self.assertEqual(list(large_tables.in_order([], lambda row: row, 3)), [])
+    def test_a_run_that_is_killed_leaves_no_half_of_a_table(self) -> None:
+        slow = self.file("slow", f"#!/bin/sh\nsleep 0.2\nexec {Programs.features}\n", 0o700)
+        out = self.file("out.csv", "before")
+        words = [*OVERLAY, "pairs", self.folder / "a.geojson", self.folder / "b.geojson", "--factor", "1", "--out", out,
+                 "--at-once", "9", "--processes", "1", "--work", self.work, "--program"]
+        with subprocess.Popen([*map(str, words), str(slow)], stderr=subprocess.DEVNULL) as run:
+            self.addCleanup(run.kill)
+            wait_for(lambda: len(list((self.work / "1").glob("*.result"))) >= 2)
+            run.kill()
+        self.assertEqual(out.read_text(), "before")
+        done = subprocess.run([*map(str, words), str(Programs.features)], capture_output=True, text=True,
+                              timeout=2 * WAIT, check=True)
+        self.assertRegex(done.stderr, r"pairs 1: \d+ of \d+ tasks were done before")
+        self.assertEqual(out.read_text(), self.table("--processes", 1)[1])
 
 
 def square(x: int, y: int) -> dict[str, object]:
@@ -462,7 +444,7 @@ class Addresses(unittest.TestCase):
     def test_what_is_sent_to_workers_can_be_imported_alone(self) -> None:
         with tempfile.TemporaryDirectory() as folder:
             sent = dask_engine.packed(pathlib.Path(folder))
-            words = [sys.executable, "-c", "from overlayd.maps import running, work; print(work.__file__)"]
+            words = [sys.executable, "-c", "from overlayd.maps import replying; print(replying.__file__)"]
             done = subprocess.run(words, cwd=folder, env={"PYTHONPATH": str(sent)}, capture_output=True, text=True,
                                   check=True, timeout=SECONDS)
             self.assertIn(".zip", done.stdout)

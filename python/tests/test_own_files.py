@@ -7,9 +7,10 @@ import subprocess
 import sys
 from unittest import mock
 
-from overlayd.commands import maps as overlay_maps
+from overlayd.commands import pieces
 from overlayd.files import gdal_writing
 from overlayd.store import keeping
+from overlayd.kernel import Ask
 from .common import OVERLAY, SECONDS, SOURCES, SQUARE, InFolder, Programs, outcome
 
 MINE = "mine\n"
@@ -107,18 +108,18 @@ class OwnPieces(InFolder):
 
     def setUp(self) -> None:
         super().setUp()
-        if Programs.live is None:
-            self.skipTest("no program was given")
+        if Programs.features is None or not Ask(Programs.features).makes_outlines():
+            self.skipTest("no built overlay_features that makes outlines: --features names it")
         self.first = self.file("a.wkt", SQUARE)
         self.second = self.file("b.wkt", "POLYGON ((5 5, 15 5, 15 15, 5 15, 5 5))")
         self.inputs = {"a.wkt", "b.wkt"}
 
     def overlaid(self, part_max: int) -> tuple[int, str]:
         """Where a file takes so many pieces."""
-        words = "--factor", 1, "--program", Programs.live, "--jobs", 1, "--pieces", self.folder / "pieces.gpkg"
+        words = "--factor", 1, "--program", Programs.features, "--jobs", 1, "--pieces", self.folder / "pieces.gpkg"
         write = functools.partial(gdal_writing.write, part_max=part_max)
         with mock.patch.object(gdal_writing, "write", write):
-            status, _, told = outcome(overlay_maps, "pieces", self.first, self.second, *words)
+            status, _, told = outcome(pieces, self.first, self.second, *words)
         return status, told
 
     def names(self) -> set[str]:

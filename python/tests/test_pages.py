@@ -27,7 +27,9 @@ class Pages(WithProgram):
             self.skipTest("no built overlayd: --program names it")
         programs = self.folder / "programs"
         programs.mkdir()
-        for program in (Programs.batched, self.program):
+        if Programs.features is None:
+            self.skipTest("no built overlay_features: --features names it")
+        for program in (Programs.batched, self.program, Programs.features):
             (programs / pathlib.Path(program).name).symlink_to(program)
         for name in ("overlay", "tools", "examples", "docs"):
             (self.folder / name).symlink_to(TOP / name)

@@ -13,10 +13,11 @@ import pytest
 
 from overlayd.commands import import_ as to_script, which
 from overlayd.files import gdal_files
+from overlayd.kernel import Ask
 from overlayd.program import Server
 from overlayd.store.world import World
 from . import testing
-from .common import OVERLAY, outcome
+from .common import OVERLAY, Programs, outcome
 from .test_features import Case
 
 pytestmark = pytest.mark.live
@@ -86,15 +87,17 @@ class OnePolygon(Case):
         for file in (source, self.package(source)):
             self.assertIn("((6131 0, 7001 0, 7001 900, 6131 900, 6131 0))", self.script(file)[0], file.name)
 
-    def test_by_overlay_maps(self) -> None:
+    def test_by_questions_over_maps(self) -> None:
+        if Programs.features is None or not Ask(Programs.features).makes_outlines():
+            self.skipTest("no built overlay_features that makes outlines: --features names it")
         for name, corners in GIVEN.items():
             text = self.file(f"{name}.geojson", feature(corners))
             words = [*OVERLAY, "pieces", str(text), str(self.package(text)),
-                     "--factor", "100", "--exact", "--program", testing.PROGRAM]
+                     "--factor", "100", "--program", str(Programs.features)]
             done = subprocess.run(words, capture_output=True, text=True, timeout=60, check=False)
             self.assertEqual(done.returncode, 0, done.stderr)
             _, row, *others = done.stdout.splitlines()
-            self.assertEqual((others, row.split(",")[-1]), ([], str(AREA)), done.stdout)
+            self.assertEqual((others, float(row.split(",")[2])), ([], float(AREA)), done.stdout)
             told = done.stderr.splitlines()
             self.assertEqual(["of more digits than a double has" in line for line in told[:2]], [name == "long", False],
                              told)

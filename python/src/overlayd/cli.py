@@ -5,7 +5,7 @@ from __future__ import annotations
 import importlib
 import os
 import sys
-from collections.abc import Callable, Sequence
+from collections.abc import Sequence
 from typing import NoReturn
 
 import click
@@ -24,25 +24,11 @@ PURPOSES = {
     "pairs": "List which features of two maps overlap or touch, and by how much.",
     "pieces": "Write all pieces of two maps, common ones and those of one map alone.",
     "check": "List where features of one map overlap, and the gaps between them.",
+    "derive": "Write what an expression over maps is, as (flood | slide) - parks.",
     "task": "Do tasks of a --work folder: for xargs, GNU parallel, Slurm.",
 }
-# Subcommands whose module has another name, or several of them.
-MODULES = {"import": "import_", "pairs": "maps", "pieces": "maps", "check": "maps", "task": "maps"}
-
-
-class Apart(click.Command):
-    """A subcommand whose module reads its words itself, by `main`."""
-
-    def __init__(self, name: str, main: Callable[[list[str]], int]) -> None:
-        super().__init__(name)
-        self.called = main
-
-    def parse_args(self, context: click.Context, args: list[str]) -> list[str]:
-        context.args = args
-        return []
-
-    def invoke(self, context: click.Context) -> int:
-        return self.called(context.args)
+# Subcommands whose module has another name.
+MODULES = {"import": "import_"}
 
 
 class Commands(click.Group):
@@ -56,10 +42,8 @@ class Commands(click.Group):
         if name not in PURPOSES:
             return None
         module = importlib.import_module(f"overlayd.commands.{MODULES.get(name, name)}")
-        if hasattr(module, "command"):
-            found: click.Command = module.command
-            return found
-        return Apart(name, lambda words: int(module.main([name, *words] if name in MODULES else words)))
+        found: click.Command = module.command
+        return found
 
     def format_commands(self, context: click.Context, formatter: click.HelpFormatter) -> None:
         with formatter.section("Subcommands"):

@@ -1,11 +1,11 @@
 """How long do the overlaps of two maps take, and what are they: `overlay pairs` beside shapely, geopandas and PostGIS?
 
-/usr/bin/python3 -m overlayd_lab.measures.map_peers LIVE [--parcels N] [--zones N] [--lattice] [--folder
+/usr/bin/python3 -m overlayd_lab.measures.map_peers PROGRAM [--parcels N] [--zones N] [--lattice] [--folder
 FOLDER] [--only PEER]..
 
-LIVE is the built overlay_live. The maps are those of ../map_making.py. Each peer reads both files and writes a table of
-the pairs whose common part has an area; of each are reported processor seconds and memory of the whole run, how many
-pairs it has, and how these differ from ours. Needs python3-gdal, -numpy, -shapely, -geopandas, -rtree and, for PostGIS,
+PROGRAM is the built overlay_features. The maps are those of ../map_making.py. Each peer reads both files and writes a
+table of the pairs whose common part has an area; of each are reported processor seconds and memory of the whole run, how
+many pairs it has, and how these differ from ours. Needs python3-gdal, -numpy, -shapely, -geopandas, -rtree and, for PostGIS,
 postgresql-15-postgis-3; a peer that is not there is left out, and reported. All is done once, on one processor at a
 time.
 """
@@ -97,13 +97,15 @@ def timed(words: list[str], table: pathlib.Path) -> Run:
 
 def read_table(path: pathlib.Path) -> Table:
     with path.open(newline="") as file:
-        return {(row[0], row[1]): float(row[2]) for row in csv.reader(file) if row[0] != "a" and float(row[2])}
+        rows = [row for row in csv.reader(file)]
+    place = rows[0].index("area") if rows and "area" in rows[0] else 2
+    return {(row[0], row[1]): float(row[place]) for row in rows[place != 2 :] if float(row[place])}
 
 
-def ours(live: str, folder: pathlib.Path, table: pathlib.Path) -> Run:
+def ours(program: str, folder: pathlib.Path, table: pathlib.Path) -> Run:
     words = [PYTHON, str(TOP / "overlay"), "pairs", str(folder / "parcels.gpkg"),
              str(folder / "zones.gpkg"), "--factor", "1000", "--a-id", "parcel", "--b-id", "zone", "--jobs", "1",
-             "--out", str(table), "--program", live]
+             "--out", str(table), "--program", program]
     return timed(words, table)
 
 
@@ -154,19 +156,17 @@ def boxes_that_meet(folder: pathlib.Path) -> int:
     """Pairs of boxes with a common part that has an area."""
     from fractions import Fraction
 
-    from overlayd.files import gdal_maps
-    from overlayd.geometry import box_pairs
-    from overlayd.maps import planning
+    from overlayd.files import map_columns
+    from overlayd.kernel import Grid, box_pairs, laying
 
-    maps = [gdal_maps.read(str(folder / f"{kind}.gpkg"), Fraction(1000), None, None, False).whole
-            for kind in ("parcels", "zones")]
-    parcels, zones = map(planning.boxes_of, maps)
-    return len(box_pairs.pairs_of_arrays(parcels, zones))
+    maps = [map_columns.read(str(folder / f"{kind}.gpkg"), None).column for kind in ("parcels", "zones")]
+    parcels, zones = (one.boxes() for one in laying.lay(maps, Grid(Fraction(1000))).maps)
+    return len(box_pairs.pairs(parcels, zones))
 
 
 def main() -> int:
     parser = Words(__doc__)
-    parser.add_argument("live", metavar="LIVE")
+    parser.add_argument("program", metavar="PROGRAM")
     parser.add_argument("--parcels", type=int, default=15_000)
     parser.add_argument("--zones", type=int, default=700)
     parser.add_argument("--lattice", action="store_true", help="parcels whose corners lie on the borders of zones")
@@ -181,17 +181,17 @@ def main() -> int:
         folder = words.folder or pathlib.Path(made)
         making = [PYTHON, str(LAB / "map_making.py"), str(words.parcels), str(words.zones), str(folder)]
         subprocess.run(making + ["--lattice"] * words.lattice, check=True)
-        boxes, base = boxes_that_meet(folder), ours(words.live, folder, folder / "ours.csv")
+        boxes, base = boxes_that_meet(folder), ours(words.program, folder, folder / "ours.csv")
         heads = ["what", "processor s", "us a pair of boxes", "MB", "overlaps", "more than ours", "fewer",
                  "areas apart, m2"]
         print(f"{boxes:,} pairs of boxes\n\n| {' | '.join(heads)} |\n|{'---|' * len(heads)}")
-        print(line("overlay_maps", base, base, boxes), flush=True)
+        print(line("overlay pairs", base, base, boxes), flush=True)
         for name in words.only or [*READERS, "PostGIS"]:
             table = folder / "peer.csv"
             table.unlink(missing_ok=True)
             try:
                 run = postgis(folder, table) if name == "PostGIS" else timed(
-                    [PYTHON, "-m", "overlayd_lab.measures.map_peers", words.live, "--folder", str(folder), "--peer",
+                    [PYTHON, "-m", "overlayd_lab.measures.map_peers", words.program, "--folder", str(folder), "--peer",
                      name, str(table)], table)
                 print(line(name, run, base, boxes), flush=True)
             except Exception as fault:

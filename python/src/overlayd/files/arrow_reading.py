@@ -7,21 +7,25 @@ first corner. For a layer without an index each shard reads the whole file.
 from __future__ import annotations
 
 import math
+import pathlib
 from collections.abc import Iterator
 from dataclasses import dataclass
 from typing import Any
 
 import numpy as np
 
+from .. import ending
 from ..geometry.flat_arrays import Numbers
 from ..grid_pass.default_grid import Unit
 from ..kernel.columns import Column, of_arrow
 from ..kernel.shapes import Shapes, shapes
+from . import coordinate_systems, gdal_files
 
 BATCH = 1 << 16  # features that are read together
 PARTS = 1.25  # a shard is halved where both halves together have at most so many times its features
 SHAPE = "wkb_geometry"  # how a stream calls a column that has no name
 NUMBER = "OGC_FID"
+NAMED_MAX = 20  # properties or layers that a refusal names
 Box = tuple[float, float, float, float]
 
 
@@ -57,23 +61,37 @@ class Shard:
 class Layer:
     """A layer of a file, of which one property calls the features, or else their numbers do."""
 
-    def __init__(self, path: str, layer: str | None = None, name_by: str | None = None) -> None:
-        from osgeo import gdal, ogr
-
-        gdal.UseExceptions()
-        ogr.UseExceptions()
+    def __init__(self, path: str, layer: str | None = None, name_by: str | None = None,
+                 where: str | None = None) -> None:
+        self.path, self.name_by = path, name_by
+        gdal, _ = coordinate_systems.modules()
         try:
-            self.file = gdal.OpenEx(path, gdal.OF_VECTOR)
+            name, options, drivers = gdal_files.opened_as(pathlib.Path(path))
+            self.file = gdal.OpenEx(name, gdal.OF_VECTOR, open_options=options, allowed_drivers=drivers)
+            self.table = self._table(layer)
+            self.table.SetAttributeFilter(where)
+        except OSError as fault:
+            raise ReadingFault(ending.told(path, fault)) from fault
         except RuntimeError as fault:
-            raise ReadingFault(f"{path}: {fault}") from None
-        self.table = self.file.GetLayerByName(layer) if layer is not None else self.file.GetLayer(0)
-        if self.table is None:
-            raise ReadingFault(f"{path}: no layer {layer}")
+            raise ReadingFault(f"{path}: {' '.join(str(fault).split())}") from None
         definition = self.table.GetLayerDefn()
         self.fields = [definition.GetFieldDefn(place).GetName() for place in range(definition.GetFieldCount())]
         if name_by is not None and name_by not in self.fields:
-            raise ReadingFault(f"{path}: no property {name_by}; say one of: {', '.join(self.fields)}")
-        self.path, self.name_by = path, name_by
+            raise ReadingFault(f"{path}: no property {name_by}; say one of: {listed(self.fields)}")
+
+    def _table(self, layer: str | None) -> Any:
+        names = [self.file.GetLayer(number).GetName() for number in range(self.file.GetLayerCount())]
+        if layer is None and len(names) != 1:
+            raise ReadingFault(f"{self.path}: {len(names)} layers, {listed(names)}; name one by --a-layer, or of B by "
+                               "--b-layer")
+        if layer is not None and layer not in names:
+            raise ReadingFault(f"{self.path}: no layer {layer}; say one of: {listed(names)}")
+        return self.file.GetLayer(0) if layer is None else self.file.GetLayerByName(layer)
+
+    def system(self) -> str | None:
+        """What the layer's system of coordinates is called; None where the file does not say it."""
+        found = coordinate_systems.of_layer(self.file, self.table)
+        return None if found == coordinate_systems.UNKNOWN else found
 
     def unit(self) -> Unit:
         """What the layer's coordinates count."""
@@ -110,13 +128,14 @@ class Layer:
         """A property of features as texts, of which each has one."""
         own: Numbers = np.asarray(names)
         if np.any(np.ma.is_masked(names)):  # type: ignore[no-untyped-call]
-            raise ReadingFault(f"{self.path}: feature {numbers[np.flatnonzero(names.mask)[0]]}: no {self.name_by}")
+            raise ReadingFault(f"{self.path}: feature {numbers[np.flatnonzero(names.mask)[0]]}: no {self.name_by}; say "
+                               "another property, that each feature has")
         try:
             if own.dtype.kind == "O":
                 own = np.array([one.decode() if isinstance(one, bytes) else str(one) for one in own.tolist()], str)
             found: Numbers = np.char.decode(own, "utf-8") if own.dtype.kind == "S" else own.astype(str)
         except UnicodeDecodeError:
-            raise ReadingFault(f"{self.path}: a {self.name_by} that is not UTF-8") from None
+            raise ReadingFault(f"{self.path}: {gdal_files.not_utf8(pathlib.Path(self.path))}") from None
         return found
 
     def extent(self) -> Box:
@@ -143,6 +162,11 @@ class Layer:
         for batch in self.batches(common(one.box, self.extent())):
             found = shapes(batch.column)
             yield batch, found, one.has(found)
+
+
+def listed(names: list[str]) -> str:
+    """Names in a row, the first of many."""
+    return ", ".join(names[:NAMED_MAX]) + (", .." if len(names) > NAMED_MAX else "") or "nothing"
 
 
 def common(a: Box, b: Box) -> Box:

@@ -7,8 +7,8 @@ from __future__ import annotations
 
 import io
 import sqlite3
-from collections.abc import Iterator
-from dataclasses import dataclass
+from collections.abc import Iterator, Mapping
+from dataclasses import dataclass, field
 from pathlib import Path
 
 import numpy as np
@@ -27,16 +27,20 @@ QUOTED = set(',"\r\n')  # marks for which a name is quoted
 LAYER = "pairs"
 HEAD = np.frombuffer(b"GP\x00\x01", np.uint8)  # of a shape in a GeoPackage: version 0, lowest bytes first, no box
 EMPTY, SIZE_OF_EMPTY = 0x10, 9  # the bit of an empty shape; the bytes of one, than which no other has so few
-INSERT = f"INSERT INTO {LAYER} ({', '.join(HEADS)}, geom) VALUES ({', '.join('?' * (len(HEADS) + 1))})"
 
 
 @dataclass(frozen=True)
 class Named:
-    """Rows, and what features of both maps are called, or None."""
+    """Rows, what features of both maps are called, or None, and further columns by their heads."""
 
     rows: Overlay
     a: Numbers | None = None
     b: Numbers | None = None
+    more: Mapping[str, list[object]] = field(default_factory=dict)
+
+    def heads(self) -> list[str]:
+        """The heads of all columns."""
+        return [*HEADS, *self.more]
 
     def columns(self) -> list[list[object]]:
         """What a table has below its heads, column by column."""
@@ -44,7 +48,8 @@ class Named:
         areas = [self.rows.areas(name) for name in ("both", "a", "b")]
         names = [called(own, self.rows.pairs[:, place]) for place, own in enumerate((self.a, self.b))]
         numbers = [areas[0].doubles(), areas[0].bounds(), areas[1].doubles(), areas[2].doubles()]
-        return [column.tolist() for column in (*names, relations[self.rows.relations()], *numbers)]
+        own = [column.tolist() for column in (*names, relations[self.rows.relations()], *numbers)]
+        return [*own, *self.more.values()]
 
 
 def called(names: Numbers | None, features: Numbers) -> Numbers:
@@ -62,11 +67,16 @@ def quoted(names: Numbers | None) -> Numbers | None:
 
 
 def write_text(path: Path, named: Named) -> None:
-    """Writes a table as CSV, whole or not at all. Areas are the shortest decimals of their doubles."""
-    columns = Named(named.rows, quoted(named.a), quoted(named.b)).columns()
+    """Writes a table as CSV, whole or not at all."""
     with writing.whole(path) as file:
-        file.write(",".join(HEADS) + "\n")
-        file.writelines(map("{},{},{},{!r},{!r},{!r},{!r}\n".format, *columns))
+        file.writelines(lines(named))
+
+
+def lines(named: Named) -> Iterator[str]:
+    """The lines of a table as CSV. Areas are the shortest decimals of their doubles."""
+    columns = Named(named.rows, quoted(named.a), quoted(named.b), named.more).columns()
+    yield ",".join(named.heads()) + "\n"
+    yield from map(("{},{},{},{!r},{!r},{!r},{!r}" + ",{}" * len(named.more) + "\n").format, *columns)
 
 
 def write_array(path: Path, rows: Overlay) -> None:
@@ -101,7 +111,7 @@ def write_package(path: Path, named: Named, system: str | None = None) -> None:
     new = writing.beside(target, ".gpkg")
     try:
         with configured(modules()[0], QUICKLY):
-            number = made(new, system)
+            number = made(new, named, system)
             fill(new, named, number)
             indexed(new)
         writing.take_places({new: target})
@@ -109,13 +119,15 @@ def write_package(path: Path, named: Named, system: str | None = None) -> None:
         new.unlink(missing_ok=True)
 
 
-def made(path: Path, system: str | None) -> int:
+def made(path: Path, named: Named, system: str | None) -> int:
     """Makes an empty layer by GDAL; the number of its system of coordinates."""
     gdal, ogr = modules()
     file = gdal.GetDriverByName("GPKG").Create(str(path), 0, 0, 0)
     options = ["SPATIAL_INDEX=NO", "GEOMETRY_NAME=geom", "FID=fid"]
     layer = file.CreateLayer(LAYER, parsed(system or UNKNOWN), ogr.wkbUnknown, options)
-    for name, kind in zip(HEADS, [ogr.OFTString] * 3 + [ogr.OFTReal] * 4):
+    own = [ogr.OFTReal if all(isinstance(one, float) for one in column) else ogr.OFTString
+           for column in named.more.values()]
+    for name, kind in zip(named.heads(), [ogr.OFTString] * 3 + [ogr.OFTReal] * 4 + own):
         layer.CreateField(ogr.FieldDefn(name, kind))
     del layer, file
     store = sqlite3.connect(path)
@@ -130,11 +142,13 @@ def fill(path: Path, named: Named, system: int) -> None:
     """Puts the rows in."""
     columns = named.columns()
     columns[:2] = [[*map(str, own)] for own in columns[:2]]
+    heads = [*named.heads(), "geom"]
+    insert = f"INSERT INTO {LAYER} ({', '.join(heads)}) VALUES ({', '.join('?' * len(heads))})"
     store = sqlite3.connect(path, isolation_level=None)
     try:
         store.execute("PRAGMA synchronous = OFF")
         store.execute("BEGIN")
-        store.executemany(INSERT, zip(*columns, shapes_of(named.rows, system)))
+        store.executemany(insert, zip(*columns, shapes_of(named.rows, system)))
         store.execute("COMMIT")
     finally:
         store.close()

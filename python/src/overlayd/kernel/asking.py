@@ -10,11 +10,13 @@ from fractions import Fraction
 import numpy as np
 
 from ..geometry.flat_arrays import Numbers
-from .blocks import PAIRS, Wants
+from .blocks import PAIRS, Asked, Kind, Wants, block
+from .features import NO_FEATURES
 from .laying import Grid
-from .rows import PARTS, Rows
-from .running import Cancelled, run
+from .rows import PARTS, BlockRefused, Rows
+from .running import Cancelled, Runs, run
 
+NO_OUTLINES = 84  # the fault of a program that makes none
 LAST_PLACES = 4  # by which arithmetic of doubles may be off
 
 
@@ -26,17 +28,29 @@ def never_stops(part: float) -> bool:
 @dataclass(frozen=True)
 class Ask:
     """The program; what rows are to have; which grid; what is asked, with how much is done from 0 to 1, whether to go
-    on; and how many pairs a block has."""
+    on; how many pairs a block has; and by what blocks are done: one program, or as `several` of running.py says."""
 
     program: str
     wants: Wants = Wants.NOTHING
     grid: Grid = field(default_factory=Grid)
     goes_on: Callable[[float], bool] = never_stops
     size: int = PAIRS
+    runs: Runs = run
 
     def stage(self, begin: float, end: float, wants: Wants = Wants.NOTHING) -> Ask:
         """The same for a stage of the work, which ends when so much of the whole is done."""
         return dataclasses.replace(self, wants=wants, goes_on=lambda part: self.goes_on(begin + part * (end - begin)))
+
+    def makes_outlines(self) -> bool:
+        """Whether the program makes outlines, as it says of a block without features."""
+        asked = Asked(Kind.PAIR, np.zeros(0, np.int64), 0)
+        try:
+            list(run(self.program, [block(NO_FEATURES, asked, Wants.OUTLINES)]))
+        except BlockRefused as refused:
+            if refused.fault != NO_OUTLINES:
+                raise
+            return False
+        return True
 
     def look(self, part: float = 0.0) -> None:
         """Raises Cancelled where the work is not to go on."""
@@ -45,7 +59,7 @@ class Ask:
 
     def rows(self, blocks: Iterable[bytes], count: int) -> Iterator[Rows]:
         """The rows of so many blocks."""
-        return run(self.program, blocks, lambda done: self.goes_on(min(1.0, done / max(1, count))))
+        return self.runs(self.program, blocks, lambda done: self.goes_on(min(1.0, done / max(1, count))))
 
 
 @dataclass(frozen=True)
@@ -74,12 +88,11 @@ class Areas:
 
     def doubles(self) -> Numbers:
         """All in square units of the map."""
-        found: Numbers = doubles_of(self.parts) * self._scale()
-        return found
+        return self._in_units(self.parts)
 
     def bounds(self) -> Numbers:
         """By how much these doubles may be off at most, by their own rounding too."""
-        found: Numbers = doubles_of(self.off) * self._scale() * (1 + 2.0**-50)
+        found = self._in_units(self.off) * (1 + 2.0**-50)
         found += LAST_PLACES * np.spacing(self.doubles())
         return found
 
@@ -91,12 +104,23 @@ class Areas:
         """By how much that may be off."""
         return sum_of(self.off)
 
+    def total(self) -> Fraction:
+        """All together, in square units of the map."""
+        return Fraction(self.sum(), 2**41) / self.factor**2
+
+    def total_bound(self) -> Fraction:
+        """By how much that may be off."""
+        return Fraction(self.sum_off(), 2**41) / self.factor**2
+
     def part(self, places: Numbers) -> Areas:
         """Some of them."""
         return Areas(self.parts[places], self.off[places], self.factor)
 
-    def _scale(self) -> float:
-        return float(1 / self.factor**2) / PARTS / 2
+    def _in_units(self, wide: Numbers) -> Numbers:
+        """Parts in square units of the map: rounded once where a factor of whole numbers is below 2^26."""
+        square = self.factor**2
+        found: Numbers = doubles_of(wide) * float(square.denominator) / (float(square.numerator) * PARTS * 2)
+        return found
 
 
 def whole_of(wide: Numbers) -> int:

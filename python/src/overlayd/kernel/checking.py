@@ -8,12 +8,22 @@ import numpy as np
 
 from .asking import Areas, Ask
 from .blocks import Wants
+from .colouring import TooManyColours
 from .columns import Column
 from .laying import lay
 from .layered import Core, Found, Layers, evaluated, frame_of, layer_areas, layers_of
 from .overlaying import Overlay, overlay_within, pairs_in
 from .polygons import Polygons, polygons_of
 from .rows import Relation
+
+
+class TooDeep(TooManyColours):
+    """Features that lie on each other in such numbers that gaps are not looked for; the overlaps that were found, and
+    the pairs without an answer."""
+
+    def __init__(self, fault: TooManyColours, overlaps: Overlay, unanswered: Overlay) -> None:
+        super().__init__(fault.feature, fault.most)
+        self.overlaps, self.unanswered = overlaps, unanswered
 
 
 @dataclass(frozen=True)
@@ -47,20 +57,22 @@ class Check:
     audit: Audit
 
 
-def check(column: Column, ask: Ask) -> Check:
-    """Overlaps and gaps of a map."""
+def check(column: Column, ask: Ask, wants: Wants = Wants.NOTHING) -> Check:
+    """Overlaps and gaps of a map. The outlines that are asked for are those of gaps; what is wanted beside is of
+    overlaps."""
     laid = lay([column], ask.grid)
     ask.look()
     features = laid.maps[0]
     live = np.flatnonzero(features.points() > 0)
     near = pairs_in(features)
-    rows = overlay_within(laid, np.concatenate([np.stack([live, live], axis=1), near]), ask.stage(0, 0.5))
-    is_own = rows.pairs[:, 0] == rows.pairs[:, 1]
-    own = rows.part(np.flatnonzero(is_own))
-    overlaps = rows.part(np.flatnonzero(~is_own & (rows.relations() >= Relation.OVERLAPS)))
+    own = overlay_within(laid, np.stack([live, live], axis=1), ask.stage(0, 0.1))
+    rows = overlay_within(laid, near, ask.stage(0.1, 0.5, wants))
+    overlaps = rows.part(np.flatnonzero(rows.relations() >= Relation.OVERLAPS))
     unanswered = rows.part(rows.faults())
-    apart = np.concatenate([overlaps.pairs, unanswered.pairs])
-    (layers,) = layers_of([features], [apart[apart[:, 0] != apart[:, 1]]])
+    try:
+        (layers,) = layers_of([features], [np.concatenate([overlaps.pairs, unanswered.pairs])])
+    except TooManyColours as fault:
+        raise TooDeep(fault, overlaps, unanswered) from fault
     frame = frame_of([features])
     union = " | ".join(layers.names()) or "Core - Core"
     covered = evaluated([layers], union, frame, laid, ask.stage(0.5, 0.65))

@@ -55,7 +55,7 @@ def derive(maps: Mapping[str, Column], expression: str, ask: Ask) -> Derived:
 
 def overlaps_of(laid: Laid, number: int, ask: Ask) -> Numbers:
     """Which features of a map overlap, or may, as the program has no answer."""
-    one = Laid([laid.maps[number]], laid.factor, laid.line, [laid.collapsed[number]])
+    one = laid.alone(number)
     rows = overlay_within(one, pairs_in(one.maps[0]), ask)
     found: Numbers = rows.pairs[(rows.relations() >= Relation.OVERLAPS) | (rows.rows["fault"] > 0)]
     return found

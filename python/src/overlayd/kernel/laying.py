@@ -58,6 +58,10 @@ class Laid:
     line: str
     collapsed: list[Numbers]
 
+    def alone(self, number: int) -> Laid:
+        """One of the maps."""
+        return Laid([self.maps[number]], self.factor, self.line, [self.collapsed[number]])
+
 
 def lay(columns: Sequence[Column], grid: Grid = Grid()) -> Laid:
     """Maps on the grid that is asked for, or on their default one."""

@@ -12,6 +12,7 @@ from .asking import Areas, Ask
 from .blocks import Wants, pair_blocks, within_blocks
 from .box_pairs import pairs, pairs_within
 from .columns import Column, columns_joined
+from .exact import exact_areas
 from .features import Features
 from .laying import Laid, lay
 from .rows import PAIR, Relation
@@ -20,12 +21,14 @@ from .rows import PAIR, Relation
 @dataclass(frozen=True)
 class Overlay:
     """Rows of pairs of features, by the first, then the second one: those that have a common point, and those of which
-    the program says by a number why it has no answer. Outlines are in coordinates of the maps, or None."""
+    the program says by a number why it has no answer. Outlines are in coordinates of the maps, or None, and exact has
+    twice the areas of what both have, in units of the grid, where fractions were asked for."""
 
     pairs: Numbers
     rows: Numbers
     outlines: Column | None
     laid: Laid
+    exact: Numbers | None = None
 
     def __len__(self) -> int:
         return len(self.rows)
@@ -47,7 +50,8 @@ class Overlay:
     def part(self, places: Numbers) -> Overlay:
         """Some of the rows."""
         own = None if self.outlines is None else self.outlines.part(places)
-        return Overlay(self.pairs[places], self.rows[places], own, self.laid)
+        exact = None if self.exact is None else self.exact[places]
+        return Overlay(self.pairs[places], self.rows[places], own, self.laid, exact)
 
 
 def overlay(a: Column, b: Column, ask: Ask) -> Overlay:
@@ -72,6 +76,7 @@ def pairs_in(features: Features, touching: bool = False) -> Numbers:
 def answered(asked: Numbers, blocks: Iterable[bytes], laid: Laid, ask: Ask) -> Overlay:
     """What the program answers to pairs, but for those that have no common point."""
     rows, outlines, live, at = [np.zeros(0, PAIR)], [], [np.zeros(0, np.int64)], 0
+    exact = [np.zeros(0, object)]
     for found in ask.rows(blocks, -(-len(asked) // ask.size)):
         own = np.flatnonzero((found.rows["relation"] != Relation.DISJOINT) | (found.rows["fault"] > 0))
         rows.append(found.rows[own])
@@ -79,5 +84,8 @@ def answered(asked: Numbers, blocks: Iterable[bytes], laid: Laid, ask: Ask) -> O
         at += len(found.rows)
         if ask.wants & Wants.OUTLINES:
             outlines.append(found.outlines(laid.factor).part(own))
+        if ask.wants & Wants.FRACTIONS:
+            exact.append(exact_areas(found)[own])
     column = columns_joined(outlines) if ask.wants & Wants.OUTLINES else None
-    return Overlay(asked[np.concatenate(live)], np.concatenate(rows), column, laid)
+    twice = np.concatenate(exact) if ask.wants & Wants.FRACTIONS else None
+    return Overlay(asked[np.concatenate(live)], np.concatenate(rows), column, laid, twice)

@@ -37,10 +37,12 @@ def polygons_of(rows: Rows, factor: Fraction) -> Polygons:
     x, y, sizes = rows.coordinates(0)[at], rows.coordinates(1)[at], sizes[order]
     first, polygon = np.unique(outer, return_inverse=True)
     whole = np.where(rings["outer"][order] == NONE, -1, np.searchsorted(outer[order], outer[order]))
-    scale = float(1 / factor)
-    shapes = column_of(x * scale, y * scale, sizes, whole, np.bincount(polygon, minlength=len(first)))
+    shapes = column_of(rows.coordinates(0, factor)[at], rows.coordinates(1, factor)[at], sizes, whole,
+                       np.bincount(polygon, minlength=len(first)))
     areas = np.bincount(outer[order], ring_areas(x, y, sizes), len(rings))[first] if len(rings) else np.zeros(0)
-    return Polygons(shapes, areas * float(1 / factor**2), boxes_of(x, y, sizes)[whole < 0])
+    square = factor**2
+    found: Numbers = areas * float(square.denominator) / float(square.numerator)
+    return Polygons(shapes, found, boxes_of(x, y, sizes)[whole < 0])
 
 
 def ring_areas(x: Numbers, y: Numbers, sizes: Numbers) -> Numbers:

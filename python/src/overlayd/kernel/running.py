@@ -7,10 +7,12 @@ that began it. A thread that reads rows keeps Python from ending, as any does th
 
 from __future__ import annotations
 
+import collections
 import io
 import subprocess
 import threading
 from collections.abc import Callable, Iterable, Iterator
+from concurrent import futures
 from typing import IO
 
 from .rows import Rows, rows_of
@@ -18,8 +20,11 @@ from .rows import Rows, rows_of
 LENGTH = 8
 PATIENCE = 0.1  # seconds between two looks at whether to go on
 SAID = 4096  # bytes of what the program says that are kept, the last ones
+TRIES = 3  # of a block whose program ends each time
+IN_HAND = 2  # blocks of each program: one that it does, and one that waits for it
 NO_FAULT: Exception | None = None
 GoesOn = Callable[[int], bool]
+Runs = Callable[[str, Iterable[bytes], GoesOn], Iterator[Rows]]
 
 
 class Cancelled(Exception):
@@ -55,6 +60,43 @@ def run(program: str, blocks: Iterable[bytes], goes_on: GoesOn = always) -> Iter
         process.wait()
         assert process.stdout is not None
         process.stdout.close()
+
+
+def several(processes: int) -> Runs:
+    """So many programs at once, each with one block in hand; rows come in the blocks' order, whoever makes them. A
+    block whose program ended is given to another one."""
+
+    def runs(program: str, blocks: Iterable[bytes], goes_on: GoesOn = always) -> Iterator[Rows]:
+        hand, left, done = collections.deque[futures.Future[Rows]](), iter(blocks), 0
+        is_over = threading.Event()
+        with futures.ThreadPoolExecutor(processes) as pool:
+            try:
+                while True:
+                    while len(hand) < IN_HAND * processes and (block := next(left, None)) is not None:
+                        hand.append(pool.submit(tried, program, block,
+                                                lambda _: not is_over.is_set() and goes_on(done)))
+                    if not hand:
+                        return
+                    rows = hand.popleft().result()
+                    done += 1
+                    yield rows
+            finally:
+                is_over.set()
+                pool.shutdown(cancel_futures=True)
+
+    return runs
+
+
+def tried(program: str, block: bytes, goes_on: GoesOn) -> Rows:
+    """The rows of one block, by as many programs as it takes."""
+    for left in reversed(range(TRIES)):
+        try:
+            (rows,) = run(program, [block], goes_on)
+            return rows
+        except ProgramEnded:
+            if not left:
+                raise
+    raise AssertionError
 
 
 def finish(process: subprocess.Popen[bytes], fed: Feeding, said: Said, watch: Watch) -> None:

@@ -1,0 +1,232 @@
+"""Writes all pieces of two maps: common ones, and those of one map alone."""
+
+from __future__ import annotations
+
+import pathlib
+from collections.abc import Sequence
+from dataclasses import dataclass
+from typing import Any
+
+import click
+import numpy as np
+
+from ..files import shape_files, writing
+from ..files.map_columns import MapColumn
+from ..files.row_tables import quoted
+from ..geometry.flat_arrays import Numbers
+from ..kernel import Ask, Wants, overlay
+from ..kernel.asking import Areas
+from ..kernel.columns import Column, columns_joined
+from ..kernel.measuring import widths
+from ..kernel.overlaying import Overlay, overlay_within
+from ..kernel.piecing import Alone, alone, colours_of
+from ..kernel.rows import Relation
+from . import map_words
+from .map_words import FILE, Question
+
+# What of both maps a question has, as geopandas calls it: common pieces, those of A alone, those of B alone.
+HOWS = {"union": (True, True, True), "intersection": (True, False, False), "identity": (True, True, False),
+        "difference": (False, True, False), "symmetric_difference": (False, True, True)}
+HEADS = ("a", "b", "area", "bound", "width", "relation")
+
+
+@dataclass(frozen=True)
+class Table:
+    """Pieces with their shapes: names of both features, areas and by how much these may be off, relations."""
+
+    a: Numbers
+    b: Numbers
+    areas: Areas
+    relations: Numbers
+    shapes: Column
+
+    def columns(self) -> dict[str, list[Any]]:
+        """What a table has, by its heads."""
+        areas = self.areas.doubles()
+        own = self.a, self.b, areas, self.areas.bounds(), widths(self.shapes, areas), self.relations
+        return {head: column.tolist() for head, column in zip(HEADS, own)}
+
+    def largest_first(self) -> Table:
+        """Pieces by their areas; of equal ones those that came first."""
+        parts = self.areas.parts
+        order = np.lexsort((np.arange(len(parts)), ~parts["low"], -parts["high"]))
+        return Table(self.a[order], self.b[order], self.areas.part(order), self.relations[order],
+                     self.shapes.part(order))
+
+
+@map_words.question(
+    "pieces",
+    click.argument("first", metavar="A"),
+    click.argument("second", metavar="B"),
+    *map_words.words("ab"),
+    click.option("--how", type=click.Choice([*HOWS]), default="union", help="which pieces, as geopandas calls "
+                 "them (default: union)"),
+    click.option("--out", type=FILE, metavar="FILE.csv", help="the table (default: standard output)"),
+    click.option("--pieces", type=FILE, metavar="FILE", help="the pieces as shapes: .geojson, .gpkg or .fgb"),
+    click.option("--no-audit", is_flag=True, help="leave the audit out"))
+def command(question: Question) -> None:
+    """Write all pieces of two maps, common ones and those of one map alone.
+
+    \b
+        overlay pieces parcels.gpkg zones.gpkg --grid 0.001 --out pieces.csv --pieces pieces.gpkg
+
+    Coordinates go onto a grid once, as one line says; all after that is exact. A piece has what calls both features, or
+    the one that has it alone, its area, by how much that may be off, and its width: area by perimeter.
+
+    An audit ends it: each feature is the sum of its pieces, or where others lie on each other within it, what it shares
+    with them all and what it has alone.
+
+    Status 0: all is written, and the audit found no difference; 1: it found one, something has no answer, or cannot be
+    written; 2: a map or a word is refused, and nothing is written.
+    """
+    given = question.words
+    out: pathlib.Path | None = given["out"]
+    shown: pathlib.Path | None = given["pieces"]
+    map_words.check_outputs({"--out": out, "--pieces": shown}, (given["first"], given["second"]))
+    shape_files.check(shown)
+    a, b = question.read((given["first"], given["second"]), "ab")
+    ask = question.ask(Wants.OUTLINES)
+    common = overlay(a.column, b.column, ask.stage(0, 0.4, Wants.OUTLINES))
+    question.tell_grid(common.laid)
+    colours = [colours_of(common.laid, number, ask.stage(0.4 + number / 10, 0.5 + number / 10)) for number in (0, 1)]
+    with_common, *sides = HOWS[given["how"]]
+    stages = [ask.stage(0.6 + number / 10, 0.7 + number / 10, Wants.OUTLINES) for number in (0, 1)]
+    own = [alone(common.laid, number, colours[1 - number], stages[number]) if sides[number] else None
+           for number in (0, 1)]
+    table = joined(common if with_common else None, own, a, b).largest_first()
+    write(table, out, shown, question)
+    tell(question, common if with_common else None, own)
+    faults = tell_unanswered(question, common, own, a, b)
+    if not given["no_audit"]:
+        for number, read in ((0, a), (1, b)):
+            part = own[number]
+            if part is not None and not faults and with_common:
+                audit(question, number, read, Side(common, part, colours[1 - number], ask.stage(0.8 + number / 10, 1)))
+
+
+def joined(common: Overlay | None, own: Sequence[Alone | None], a: MapColumn, b: MapColumn) -> Table:
+    """All pieces in one table, of which there is at least one kind."""
+    tables = [] if common is None else [of_common(common, a, b)]
+    tables += [of_alone(side, number, (a, b)[number]) for number, side in enumerate(own) if side is not None]
+    areas = [one.areas for one in tables]
+    both = Areas(np.concatenate([one.parts for one in areas]), np.concatenate([one.off for one in areas]),
+                 areas[0].factor)
+    names_a, names_b, relations = (np.concatenate([getattr(one, name) for one in tables])
+                                   for name in ("a", "b", "relations"))
+    return Table(names_a, names_b, both, relations, columns_joined([one.shapes for one in tables]))
+
+
+def of_common(common: Overlay, a: MapColumn, b: MapColumn) -> Table:
+    """The pieces that two features have in common."""
+    rows = common.part(np.flatnonzero(common.relations() >= Relation.OVERLAPS))
+    assert rows.outlines is not None
+    return Table(a.names[rows.pairs[:, 0]], b.names[rows.pairs[:, 1]], rows.areas(),
+                 np.full(len(rows), "overlaps", object), rows.outlines)
+
+
+def of_alone(side: Alone, number: int, read: MapColumn) -> Table:
+    """The pieces that a feature has alone."""
+    rows = side.part(np.flatnonzero(side.rows["fault"] == 0))
+    assert rows.outlines is not None
+    names, nothing = read.names[rows.features], np.full(len(rows), "", object)
+    return Table(nothing if number else names, names if number else nothing, rows.areas(),
+                 np.full(len(rows), "alone", object), rows.outlines)
+
+
+def write(table: Table, out: pathlib.Path | None, shown: pathlib.Path | None, question: Question) -> None:
+    """Writes the table, and shapes where they are wanted."""
+    columns = table.columns()
+    if shown is not None:
+        properties = {name: columns[name] for name in ("a", "b", "area")}
+        shape_files.write(shown, table.shapes, properties, question.system())
+        question.say(f"{len(table.a)} pieces in {shown}")
+    names = [quoted(own) for own in (table.a, table.b)]
+    own = [[] if one is None else one.tolist() for one in names]
+    lines = map("{},{},{!r},{!r},{:.4g},{}\n".format, *own, *(columns[head] for head in HEADS[2:]))
+    if out is None:
+        question.output.write(",".join(HEADS) + "\n")
+        question.output.writelines(lines)
+        return
+    with writing.whole(out) as file:
+        file.write(",".join(HEADS) + "\n")
+        file.writelines(lines)
+
+
+def tell(question: Question, common: Overlay | None, own: Sequence[Alone | None]) -> None:
+    """What the pieces of each kind sum to."""
+    told = []
+    if common is not None:
+        told.append(("common", common.areas(), int((common.relations() >= Relation.OVERLAPS).sum())))
+    told += [(name, side.areas(), len(side)) for name, side in zip(("a alone", "b alone"), own) if side is not None]
+    question.say("; ".join(f"{name} {float(areas.total()):.12g} in {count} pieces" for name, areas, count in told))
+
+
+def tell_unanswered(question: Question, common: Overlay, own: Sequence[Alone | None], a: MapColumn,
+                    b: MapColumn) -> bool:
+    """Of what there is no answer; whether there is any."""
+    lines = [f"{a.labels[i]}, and {b.labels[j]}: {map_words.why(fault)}" for (i, j), fault in zip(
+        common.pairs[common.faults()].tolist(), common.rows["fault"][common.faults()].tolist())]
+    for side, read in zip(own, (a, b)):
+        if side is not None:
+            faults = np.flatnonzero(side.rows["fault"])
+            lines += [f"{read.labels[feature]}: {map_words.why(fault)}; what it has alone is left out"
+                      for feature, fault in zip(side.features[faults].tolist(), side.rows["fault"][faults].tolist())]
+    question.tell_unanswered(lines)
+    return bool(lines)
+
+
+@dataclass(frozen=True)
+class Side:
+    """Of what the audit of a map is made: common pieces, what it has alone, the colours of the other map, and how is
+    asked."""
+
+    common: Overlay
+    alone: Alone
+    colours: Numbers
+    ask: Ask
+
+
+def audit(question: Question, number: int, read: MapColumn, side: Side) -> None:
+    """Whether each feature of a map is the sum of its pieces."""
+    laid, count = side.common.laid, len(read)
+    live = np.flatnonzero(laid.maps[number].points() > 0)
+    own = laid.alone(number)
+    whole = overlay_within(own, np.stack([live, live], axis=1), side.ask.stage(0, 0.3))
+    sums = np.zeros(count, object)
+    off = np.zeros(count, object)
+    for features, parts, bounds, sign in (
+            (side.common.pairs[:, number], side.common.rows["both"], side.common.rows["bound"], 1),
+            (side.alone.features, side.alone.rows["both"], side.alone.rows["bound"], 1),
+            (whole.pairs[:, 0], whole.rows["a"], whole.rows["bound"], -1)):
+        np.add.at(sums, features, sign * wholes(parts))
+        np.add.at(off, features, wholes(bounds))
+    apart = np.flatnonzero(np.abs(sums) > off)
+    name = "ab"[number]
+    if len(apart):
+        apart = apart[~shares_close(side, number, apart, (sums, off))]
+    question.say(f"audit: {count - len(apart)} of {count} features of {name} are the sum of their pieces")
+    if len(apart):
+        question.say(f"audit: {len(apart)} features of {name} are NOT the sum of their pieces: "
+                     f"{map_words.some(read.names[apart].tolist())}")
+        question.status = 1
+
+
+def shares_close(side: Side, number: int, apart: Numbers, found: tuple[Numbers, Numbers]) -> Numbers:
+    """Of features whose pieces are more than they are, as others lie on each other within them: whether what they share
+    with the other map as a whole, and what they have alone, are they."""
+    shared = alone(side.common.laid, number, side.colours, side.ask.stage(0.3, 1), is_shared=True)
+    sums, off = found[0].copy(), found[1].copy()
+    np.add.at(sums, side.common.pairs[:, number], -wholes(side.common.rows["both"]))
+    np.add.at(sums, shared.features, wholes(shared.rows["both"]))
+    np.add.at(off, shared.features, wholes(shared.rows["bound"]))
+    closes: Numbers = (np.abs(sums) <= off)[apart] & (found[0] > 0)[apart]
+    return closes
+
+
+def wholes(wide: Numbers) -> Numbers:
+    """Numbers of 16 bytes as Python's."""
+    found: Numbers = wide["high"].astype(object) * 2**64 + wide["low"].astype(object)
+    return found
+
+
+main = command.run
