@@ -1,6 +1,6 @@
 """What a release holds, below one prefix: programs, the package overlayd, manual pages, completion, documents.
 
-    bin/            overlayd, overlay_live, overlay_window; overlay, a link to the command
+    bin/            overlayd, overlay_live, overlay_features; overlay, a link to the command
     lib/overlayd/   overlay and python/src/, byte for byte as they are here
     lib/systemd/    the unit of the front
     share/          manual pages, bash's completion, documents and examples
@@ -21,7 +21,7 @@ from .packing import Entry
 
 TOP = pathlib.Path(__file__).resolve().parent.parent
 PARTS = pathlib.Path(__file__).resolve().parent / "parts"
-PROGRAMS = ("overlay_live", "overlay_window", "overlayd")
+PROGRAMS = ("overlay_features", "overlay_live", "overlayd")
 HOME = "lib/overlayd"
 DOCUMENTS = "share/doc/overlayd"
 PAGES = "share/man/man1"

@@ -24,11 +24,10 @@ SQUARE = "POLYGON ((0 0, 10 0, 10 10, 0 10, 0 0))"
 
 
 class Programs:
-    """The built programs, or None: those of the words --program, --live, --window and --features, else of crates/."""
+    """The built programs, or None: those of the words --program, --live and --features, else of crates/."""
 
     batched: str | None = None
     live: str | None = None
-    window: str | None = None
     features: str | None = None
 
 

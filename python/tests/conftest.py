@@ -7,7 +7,7 @@ import pytest
 from . import testing
 from .common import TOP, Programs
 
-BUILT = {"program": "overlayd", "live": "overlay_live", "window": "overlay_window", "features": "overlay_features"}
+BUILT = {"program": "overlayd", "live": "overlay_live", "features": "overlay_features"}
 
 
 def pytest_addoption(parser: pytest.Parser) -> None:
@@ -20,7 +20,7 @@ def pytest_configure(config: pytest.Config) -> None:
     config.addinivalue_line("markers", "live: a test of a built overlay_live")
     config.addinivalue_line("markers", "features: a test of a built overlay_features")
     found = [str(path.resolve()) if (path := config.getoption(word)).is_file() else None for word in BUILT]
-    Programs.batched, Programs.live, Programs.window, Programs.features = found
+    Programs.batched, Programs.live, Programs.features = found
     testing.PROGRAM = Programs.live or testing.PROGRAM
 
 

@@ -3,7 +3,6 @@
 import csv
 import io
 import json
-import math
 import os
 import pathlib
 import resource
@@ -11,18 +10,17 @@ import struct
 import subprocess
 import sys
 from collections.abc import Iterator, Sequence
-from fractions import Fraction
-from unittest import mock
 
 from osgeo import gdal, ogr, osr
 
-from overlayd.commands import maps as overlay_maps
+from overlayd.commands import check, map_words
 from overlayd.ending import Unusable
-from overlayd.files import gdal_maps, gdal_writing, numpy_maps
-from overlayd.files.spooled import Names
-from overlayd.geometry.whole_maps import MapFault, ReadMap, Told
-from overlayd.maps import running
-from .common import OVERLAY, SOURCES, TOP, InFolder, Programs, outcome
+from overlayd.files import gdal_writing, map_columns
+from overlayd.files.arrow_reading import ReadingFault
+from overlayd.files.map_columns import MapColumn
+from overlayd.kernel import Ask
+from overlayd.kernel.shapes import shapes
+from .common import SOURCES, TOP, InFolder, Programs, outcome
 
 RING = [(0, 0), (10, 0), (10, 10), (0, 10), (0, 0)]
 HOLE = [(2, 2), (2, 4), (4, 4), (4, 2), (2, 2)]
@@ -55,110 +53,73 @@ class WithFiles(InFolder):
 
 
 class Reading(WithFiles):
-    def read(self, path: str, factor: Fraction = Fraction(1), id_field: str | None = "nr", layer: str | None = None,
-             bend: bool = False) -> ReadMap:
-        return gdal_maps.read(path, factor, id_field, layer, bend)
+    def read(self, path: str, id_field: str | None = "nr", layer: str | None = None) -> MapColumn:
+        return map_columns.read(path, id_field, layer)
 
-    def refused(self, pattern: str, path: str, *words: object, **more: object) -> None:
-        with self.assertRaisesRegex(MapFault, pattern):
+    def refused(self, pattern: str, path: str, *words: str | None, **more: str | None) -> None:
+        with self.assertRaisesRegex(ReadingFault, pattern):
             self.read(path, *words, **more)
 
     def test_files_of_three_kinds_are_one_map(self) -> None:
         corner = [(20, 0), (30, 0), (20, 9), (20, 0)]
-        shapes = f"POLYGON {text_of(RING, HOLE)}", f"MULTIPOLYGON ({text_of(RING)}, {text_of(corner)})"
-        found = {}
+        given = f"POLYGON {text_of(RING, HOLE)}", f"MULTIPOLYGON ({text_of(RING)}, {text_of(corner)})"
         for suffix in ("gpkg", "fgb", "shp"):
-            read = self.read(self.made(*shapes, suffix=suffix), Fraction(10))
-            rings = {name: sorted(map(frozenset, read.whole.rings(place))) for place, name in enumerate(read.whole.ids)}
-            found[suffix] = rings
-            self.assertEqual((read.crs, read.told.features, read.told.points, read.told.moved),
-                             ("EPSG:25832", 2, 15, 0))
-        square = frozenset((10 * x, 10 * y) for x, y in RING)
-        self.assertEqual(set(found["gpkg"]["p1"]), {square, frozenset([(200, 0), (300, 0), (200, 90)])})
-        self.assertEqual(set(found["gpkg"]["p0"]), {square, frozenset((10 * x, 10 * y) for x, y in HOLE)})
-        self.assertEqual(found["gpkg"].keys(), {"p0", "p1"})
-        for suffix in ("fgb", "shp"):
-            self.assertEqual({name: set(rings) for name, rings in found[suffix].items()},
-                             {name: set(rings) for name, rings in found["gpkg"].items()})
+            read = self.read(self.made(*given, suffix=suffix))
+            found = shapes(read.column)
+            points = {*zip(found.x.tolist(), found.y.tolist())}
+            self.assertEqual((read.system, sorted(read.names.tolist()), len(found.x)), ("EPSG:25832", ["p0", "p1"], 15))
+            self.assertEqual(points, {*RING, *HOLE, *corner})
 
     def test_a_file_is_what_it_has_whatever_it_is_called(self) -> None:
         for suffix in ("gpkg", "fgb"):
             made = pathlib.Path(self.made(f"POLYGON {text_of(RING)}", suffix=suffix))
             for name in ("map.json", "map.csv", "map.shp", "map"):
                 other = made.rename(self.folder / name)
-                self.assertEqual((self.read(str(other)).whole.ids, running.form_of(str(other)) is None),
+                self.assertEqual((self.read(str(other)).names.tolist(), map_words.form_of(str(other)) is None),
                                  (["p0"], False))
                 made = other
         for name in ("a.csv", "a.txt", "a.geojson", "a"):
             table = self.file(name, f'"nr",WKT\np0,"POLYGON {text_of(RING)}"\n')
-            self.assertEqual((self.read(str(table)).whole.ids, running.form_of(str(table)) is None), (["p0"], False))
-
-    def test_outer_rings_run_one_way_and_holes_the_other(self) -> None:
-        for rings in ([RING, HOLE], [RING[::-1], HOLE[::-1]]):
-            outer, hole = self.read(self.made(f"POLYGON {text_of(*rings)}")).whole.rings(0)
-            self.assertEqual((area(outer), area(hole)), (100, -4))
+            self.assertEqual((self.read(str(table)).names.tolist(), map_words.form_of(str(table)) is None),
+                             (["p0"], False))
 
     def test_a_third_coordinate_is_left_out(self) -> None:
         read = self.read(self.made("POLYGON Z ((0 0 7, 4 0 7, 0 4 7, 0 0 7))",
                                    "POLYGON ZM ((0 0 1 2, 4 0 1 2, 0 4 1 2, 0 0 1 2))"))
-        self.assertEqual([set(read.whole.rings(place)[0]) for place in (0, 1)], [{(0, 0), (4, 0), (0, 4)}] * 2)
+        found = shapes(read.column)
+        self.assertEqual([*zip(found.x, found.y)], [(0, 0), (4, 0), (0, 4)] * 2)
 
     def test_what_is_no_polygon_is_left_out_and_told(self) -> None:
         path = self.made("POINT (1 1)", f"POLYGON {text_of(RING)}", None, "LINESTRING (0 0, 1 1)",
                          "CURVEPOLYGON (CIRCULARSTRING (0 0, 1 1, 2 0, 1 -1, 0 0))")
         read = self.read(path)
-        self.assertEqual(read.whole.ids, ["p1"])
-        self.assertEqual(read.told.skipped, [
-            "feature 1 (p0): a POINT, no polygon", "feature 3 (p2): a feature without a geometry",
-            "feature 4 (p3): a LINESTRING, no polygon", "feature 5 (p4): a CURVEPOLYGON, no polygon"])
+        self.assertEqual(read.names.tolist(), ["p1"])
+        self.assertEqual([one.removeprefix(f"{path}, ") for one in read.left_out], [
+            "feature 1 (p0): a Point, no polygon", "feature 3 (p2): a feature without a geometry",
+            "feature 4 (p3): a Line String, no polygon", "feature 5 (p4): a Curve Polygon, no polygon"])
 
     def test_features_are_called_by_a_property_or_by_number(self) -> None:
         path = self.made(*[f"POLYGON {text_of(RING)}"] * 2)
-        self.assertEqual(self.read(path).whole.ids, ["p0", "p1"])
-        self.assertEqual(self.read(path, id_field=None).whole.ids, ["1", "2"])
+        self.assertEqual(self.read(path).names.tolist(), ["p0", "p1"])
+        self.assertEqual(self.read(path, id_field=None).names.tolist(), ["1", "2"])
         self.refused("no property code; say one of: nr", path, id_field="code")
 
     def test_a_name_that_is_no_utf_8_is_refused_before_anything_is_asked(self) -> None:
         table = self.file("latin.csv", f'nr,WKT\np\u00e4,"POLYGON {text_of(RING)}"\n'.encode("latin-1"))
-        self.refused("latin.csv: feature 1: its texts are no UTF-8; iconv", str(table), id_field="nr")
-
-    def test_a_ring_that_is_not_closed_is_refused(self) -> None:
-        opened = f"POLYGON {text_of(RING[:-1])}"
-        path = self.made(f"POLYGON {text_of(RING)}", opened, f"POLYGON {text_of(RING)}", opened)
-        self.refused(r"map\.gpkg, feature 2 \(p1\): a ring that is not closed.* 1 more to be mended: feature 4 \(p3\)$",
-                     path)
-
-    def test_a_coordinate_that_is_no_number_is_refused(self) -> None:
-        for odd, reason in ((math.nan, "no number"), (math.inf, "no number"),
-                            (1e16, "more than 2.52 units; say a smaller")):
-            flat = numpy_maps.Flat("map")
-            for name, ring in (("p0", RING), ("p1", [(0, 0), (odd, 1), (1, 1), (0, 0)]), ("p2", RING)):
-                wkb = struct.pack(f"<BIII{2 * len(ring)}d", 1, 3, 1, len(ring), *sum(ring, ()))
-                flat.add(name, f"map, feature ({name})", gdal_maps.rings_at(wkb, 0))
-            with self.assertRaisesRegex(MapFault, rf"^map, feature \(p1\): .*{reason}"):
-                flat.whole(Fraction(1), False, Told())
-
-    def test_one_that_is_beyond_all_doubles_in_units_is_refused_in_one_line(self) -> None:
-        path = self.made(f"POLYGON {text_of(RING)}", "POLYGON ((0 0, 1e300 0, 1 1, 0 0))")
-        done = subprocess.run([*OVERLAY, "check", path, "--factor", "10000000000",
-                               "--program", "true"], capture_output=True, text=True, timeout=60, check=False)
-        self.assertEqual(done.returncode, 2)
-        self.assertRegex(done.stderr,
-                         r"^[^\n]*map\.gpkg, feature 2: a coordinate of more than 2\^52 units; say a smaller --factor, "
-                         r"or mend it there\n$")
+        self.refused("latin.csv: .*its texts are no UTF-8; iconv", str(table), id_field="nr")
 
     def test_nothing_is_written_beside_a_map(self) -> None:
         path = str(self.folder / "map.gml")
         gdal.VectorTranslate(path, self.made(f"POLYGON {text_of(RING)}"), format="GML")
         (self.folder / "map.xsd").unlink()
         before = sorted(self.folder.iterdir())
-        self.assertEqual(self.read(path).whole.ids, ["p0"])
+        self.assertEqual(self.read(path).names.tolist(), ["p0"])
         self.assertEqual(sorted(self.folder.iterdir()), before)
 
     def test_several_layers_have_to_be_named(self) -> None:
         path = self.made(f"POLYGON {text_of(RING)}", layers=("parcels", "zones"))
         self.refused("2 layers, parcels, zones; name one by --a-layer", path)
-        self.assertEqual(len(self.read(path, layer="zones").whole), 1)
+        self.assertEqual(len(self.read(path, layer="zones")), 1)
         self.refused("no layer roads; say one of: parcels, zones", path, layer="roads")
 
     def test_what_is_no_map_is_refused(self) -> None:
@@ -170,29 +131,6 @@ class Reading(WithFiles):
                                      layers=("map",)))
         cut.write_bytes(cut.read_bytes()[:100_000])
         self.refused(r"map.shp: \w", str(cut))
-
-    def test_long_edges_are_refused_or_bent(self) -> None:
-        path = self.made("POLYGON ((0 0, 1000 0, 1000 1000, 0 1000, 0 0))")
-        self.refused("--bend", path, Fraction(1000))
-        self.assertEqual(self.read(path, Fraction(1000), bend=True).told.bent, 4)
-
-    def test_a_large_map_stays_in_files_and_is_the_same(self) -> None:
-        path = self.made(*[f"POLYGON {text_of([(x + k, y) for x, y in RING], [(x + k, y) for x, y in HOLE])}"
-                           for k in range(7)], None)
-        read = self.read(path)
-        self.enterContext(mock.patch.object(gdal_maps, "LARGE", 20))
-        self.enterContext(mock.patch.object(gdal_maps, "BATCH", 2))
-        spooled = self.read(path)
-        self.assertIsInstance(spooled.whole.ids, Names)
-        self.assertEqual(list(spooled.whole.ids), read.whole.ids)
-        self.assertEqual(spooled.whole.ids[2:4], ["p2", "p3"])
-        for name in ("xs", "ys", "ring_at", "feature_at"):
-            self.assertEqual(list(getattr(spooled.whole, name)), list(getattr(read.whole, name)), name)
-        self.assertEqual(spooled.told, read.told)
-
-
-def area(ring: list[tuple[int, int]]) -> float:
-    return sum(ax * by - ay * bx for (ax, ay), (bx, by) in zip(ring, ring[1:] + ring[:1])) / 2
 
 
 class Writing(InFolder):
@@ -221,7 +159,7 @@ class Writing(InFolder):
             gdal_writing.write(path, self.pieces(3), None)
             file = gdal.OpenEx(path, gdal.OF_VECTOR)
             self.assertTrue(file.GetLayer(0).GetSpatialRef().IsLocal())
-            self.assertIsNone(gdal_maps.read(path, Fraction(1), None, None, False).crs)
+            self.assertIsNone(map_columns.read(path, None).system)
 
     def test_many_go_into_parts_that_open_as_one(self) -> None:
         for suffix in ("gpkg", "fgb"):
@@ -247,7 +185,7 @@ class Writing(InFolder):
     def test_parts_are_not_written_over_what_is_another_s(self) -> None:
         for name in ("pieces-002.gpkg", "pieces.vrt"):
             own = self.file(name, "mine")
-            with self.assertRaisesRegex(MapFault, f"{own} stands, and was not named"):
+            with self.assertRaisesRegex(ReadingFault, f"{own} stands, and was not named"):
                 gdal_writing.write(str(self.folder / "pieces.gpkg"), self.pieces(7), None, 3)
             self.assertEqual([one.name for one in self.folder.iterdir()], [name])
             self.assertEqual(own.read_text(), "mine")
@@ -291,20 +229,20 @@ class Writing(InFolder):
                          (3, 0o640, "mine"))
         self.assertTrue((self.folder / "pieces.gpkg").is_symlink())
         os.mkfifo(self.folder / "pipe.gpkg")
-        with self.assertRaisesRegex(MapFault, "pipe.gpkg: no file; "):
+        with self.assertRaisesRegex(ReadingFault, "pipe.gpkg: no file; "):
             gdal_writing.write(str(self.folder / "pipe.gpkg"), self.pieces(3), None)
 
     def test_another_suffix_is_refused(self) -> None:
-        with self.assertRaisesRegex(MapFault, r"pieces\.dxf: pieces are written as \.gpkg, \.fgb or \.geojson"):
+        with self.assertRaisesRegex(ReadingFault, r"pieces\.dxf: pieces are written as \.gpkg, \.fgb or \.geojson"):
             gdal_writing.write(str(self.folder / "pieces.dxf"), [], None)
 
 
 class Missing(WithFiles):
     def test_a_package_that_is_missing_is_named(self) -> None:
-        words = ["check", self.made(f"POLYGON {text_of(RING)}"), "--factor", "1", "--program", sys.executable]
+        words = [self.made(f"POLYGON {text_of(RING)}"), "--factor", "1", "--program", sys.executable]
         for module, package in (("numpy", "python3-numpy"), ("osgeo", "python3-gdal")):
             text = (f"import sys; sys.modules['{module}'] = None; from overlayd import ending; "
-                    "ending.run_module('overlayd.commands.maps')")
+                    "ending.run_module('overlayd.commands.check')")
             done = subprocess.run([sys.executable, "-c", text, *words], cwd=TOP, env=SOURCES, capture_output=True,
                                   text=True, check=False)
             self.assertEqual((done.returncode, done.stdout, done.stderr), (
@@ -316,8 +254,8 @@ class OverTool(WithFiles):
 
     def setUp(self) -> None:
         super().setUp()
-        if Programs.live is None:
-            self.skipTest("no program was given")
+        if Programs.features is None:
+            self.skipTest("no built overlay_features: --features names it")
 
     def test_a_map_by_gdal_has_the_table_of_its_geojson(self) -> None:
         rings = [[(x + 7 * (k % 4), y + 7 * (k // 4)) for x, y in RING] for k in range(16)]
@@ -326,12 +264,13 @@ class OverTool(WithFiles):
             for k, ring in enumerate(rings)]}))
         tables = []
         for path in (geojson, self.made(*[f"POLYGON {text_of(ring)}" for ring in rings], crs=4326)):
-            words = ["--factor", "1", "--a-id", "nr", "--program", Programs.live, "--jobs", "1"]
-            status, table, told = outcome(overlay_maps, "check", path, *words, "--gaps", self.folder / "gaps.gpkg")
+            words = ["--factor", "1", "--a-id", "nr", "--program", Programs.features, "--jobs", "1"]
+            gaps = ["--gaps", self.folder / "gaps.gpkg"] if Ask(str(Programs.features)).makes_outlines() else []
+            status, table, told = outcome(check, path, *words, *gaps)
             self.assertEqual(status, 0, told)
             tables.append(table)
         self.assertEqual(tables[0], tables[1])
         # A square overlaps its neighbours to the right and above by 3 x 10, and those across by 3 x 3: 12, 12, 9 and 9.
         areas = sorted(float(row["area"]) for row in csv.DictReader(io.StringIO(tables[0])))
         self.assertEqual(areas, [9.0] * 18 + [30.0] * 24)
-        self.assertTrue((self.folder / "gaps.gpkg").is_file())
+        self.assertEqual((self.folder / "gaps.gpkg").is_file(), bool(gaps))

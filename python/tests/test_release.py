@@ -91,7 +91,7 @@ def build(programs: pathlib.Path, folder: pathlib.Path) -> None:
 def setUpModule() -> None:
     folder = pathlib.Path(unittest.enterModuleContext(tempfile.TemporaryDirectory())).resolve()
     (folder / "programs").mkdir()
-    for path in (Programs.batched, Programs.live, Programs.window):
+    for path in (Programs.batched, Programs.live, Programs.features):
         if path is None or not shutil.which("rt"):
             raise unittest.SkipTest("a release is made of all three programs, by the kit's rt")
         shutil.copy(path, folder / "programs")

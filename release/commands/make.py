@@ -112,7 +112,7 @@ def main(arguments: list[str]) -> int:
     parser.add_argument("--out", metavar="FOLDER", type=pathlib.Path, default=TOP / "release/out",
                         help="where both are written (default release/out)")
     parser.add_argument("--programs", metavar="FOLDER", type=pathlib.Path,
-                        help="where overlayd, overlay_live and overlay_window are (default crates/*/out, of the gate)")
+                        help="where overlayd, overlay_live and overlay_features are (default the gate's crates/*/out)")
     parser.add_argument("--maintainer", metavar="TEXT", help="`NAME <ADDRESS>` (default: whose the commit is)")
     words = parser.parse_args(arguments)
     try:

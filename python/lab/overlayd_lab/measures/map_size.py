@@ -1,9 +1,9 @@
 """How long does `overlay pairs` take for two maps like a land register's, and how much memory do its processes take?
 
-    /usr/bin/python3 -m overlayd_lab.measures.map_size LIVE [--parcels N] [--zones N] [--jobs N] [--maps FOLDER]
+    /usr/bin/python3 -m overlayd_lab.measures.map_size PROGRAM [--parcels N] [--zones N] [--jobs N] [--maps FOLDER]
         [-- WORD..]
 
-LIVE is the built overlay_live; overlay_window is taken where it stands beside it. The maps are made by
+PROGRAM is the built overlay_features. The maps are made by
 ../map_making.py, or stand in --maps; words after -- go to `overlay pairs`. It prints seconds of
 processors of the run and all that it began, seconds by the clock, and the most memory that the run and all processes
 below it had together at one time: the sum of PSS of /proc/PROCESS/smaps_rollup, in which a page that several have
@@ -57,7 +57,7 @@ def watched(words: list[str]) -> tuple[int, float, float, float]:
 
 def main() -> int:
     parser = Words(__doc__)
-    parser.add_argument("live", metavar="LIVE")
+    parser.add_argument("program", metavar="PROGRAM")
     parser.add_argument("--parcels", type=int, default=300_000)
     parser.add_argument("--zones", type=int, default=20_000)
     parser.add_argument("--jobs", type=int, default=2)
@@ -75,7 +75,7 @@ def main() -> int:
         out = folder / "pairs.csv"
         status, seconds, clock, megabytes = watched(
             [PYTHON, str(TOOL), "pairs", str(maps / "parcels.gpkg"), str(maps / "zones.gpkg"), "--factor", "1000",
-             "--a-id", "parcel", "--b-id", "zone", "--program", words.live, "--jobs", str(words.jobs), "--out",
+             "--a-id", "parcel", "--b-id", "zone", "--program", words.program, "--jobs", str(words.jobs), "--out",
              str(out), *more])
         if status:
             return 1

@@ -1,9 +1,9 @@
 """Kills workers, programs and runs of `overlay pairs` amid their tasks, by each engine. Is it the same table, is any
 process left?
 
-    /usr/bin/python3 -m overlayd_lab.trials.map_engines LIVE [--parcels N] [--zones N] [--times N] [--only CASE]..
+    /usr/bin/python3 -m overlayd_lab.trials.map_engines PROGRAM [--parcels N] [--zones N] [--times N] [--only CASE]..
 
-LIVE is the built overlay_live; overlay_window is taken where it stands beside it. One process makes the table that all
+PROGRAM is the built overlay_features. One process makes the table that all
 others have to have, byte by byte. In each case a run is begun, and when a few tasks are done something of it gets
 SIGKILL; a run that was killed itself is begun again. Dask's scheduler and two workers are started here, over TCP and
 TLS on the loopback; in two cases the workers are another user, who may not see the folder, or not write in it, so tasks
@@ -71,7 +71,7 @@ def below(number: int) -> list[Process]:
 class Trial:
     """A map, what its table has to be, and what was seen."""
 
-    live: str
+    program: str
     folder: pathlib.Path
     table: str = ""
     wrong: list[str] = field(default_factory=list)
@@ -85,7 +85,7 @@ class Trial:
     def words(self, *engine: str) -> list[str]:
         maps = [str(self.folder / f"{kind}.gpkg") for kind in ("parcels", "zones")]
         return [PYTHON, str(TOOL), "pairs", *maps, "--factor", "1000", "--a-id", "parcel", "--b-id", "zone", "--work",
-                str(self.work), "--out", str(self.folder / "out.csv"), "--program", self.live, *engine]
+                str(self.work), "--out", str(self.folder / "out.csv"), "--program", self.program, *engine]
 
     def done(self) -> int:
         return len(list(self.work.glob("1/*.result")))
@@ -132,11 +132,11 @@ class Trial:
 
 
 def first(run: subprocess.Popen[str], name: str | None = None) -> int | None:
-    """A program of a run that has this name, or a worker that has overlay_live."""
+    """A program of a run that has this name, or a worker that has overlay_features."""
     for one in below(run.pid):
         if name is not None and one.name == name:
             return one.number
-        if name is None and any(child.name == "overlay_live" for child in below(one.number)):
+        if name is None and any(child.name == "overlay_features" for child in below(one.number)):
             return one.number
     return None
 
@@ -168,7 +168,8 @@ def by_xargs(trial: Trial, case: str) -> None:
     trial.fresh()
     trial.begun("--jobs", "0").communicate()
     count = len(list(trial.work.glob("1/*.task")))
-    words = ["xargs", "-P", "2", "-n", "3", PYTHON, str(TOOL), "task", str(trial.work / "1"), "--program", trial.live]
+    words = ["xargs", "-P", "2", "-n", "3", PYTHON, str(TOOL), "task", str(trial.work / "1"), "--program",
+             trial.program]
     with subprocess.Popen(words, stdin=subprocess.PIPE, stderr=subprocess.DEVNULL, text=True) as run:
         assert run.stdin
         run.stdin.write("".join(f"{number}\n" for number in range(count)))
@@ -230,7 +231,7 @@ def over_sockets(trial: Trial, case: str, user: str | None = None, mode: int = 0
     with scheduler(trial.folder, user, protocol) as (address, workers):
         run = trial.begun("--dask", address)
         seen = trial.killed(run, lambda: workers[0] if any(
-            child.name == "overlay_live" for child in below(workers[0])) else None)
+            child.name == "overlay_features" for child in below(workers[0])) else None)
         seen |= {child for worker in workers for child in below(worker)}
         trial.ended(case, run)
     trial.gone(case, seen)
@@ -238,9 +239,8 @@ def over_sockets(trial: Trial, case: str, user: str | None = None, mode: int = 0
 
 CASES: dict[str, Callable[[Trial, str], None]] = {
     "a worker of two": lambda trial, case: part_dies(trial, case, "--jobs", "2"),
-    "a program of two": lambda trial, case: part_dies(trial, case, "--jobs", "2", name="overlay_live"),
-    "the program of one process": lambda trial, case: part_dies(trial, case, "--jobs", "1", name="overlay_live"),
-    "overlay_window of two": lambda trial, case: part_dies(trial, case, "--jobs", "2", name="overlay_window"),
+    "a program of two": lambda trial, case: part_dies(trial, case, "--jobs", "2", name="overlay_features"),
+    "the program of one process": lambda trial, case: part_dies(trial, case, "--jobs", "1", name="overlay_features"),
     "the run, two workers": lambda trial, case: run_dies(trial, case, "--jobs", "2"), "one of xargs": by_xargs,
     "a worker of Dask's here": lambda trial, case: part_dies(trial, case, "--dask", "--jobs", "2"),
     "the run, Dask here": lambda trial, case: run_dies(trial, case, "--dask", "--jobs", "2"),
@@ -253,7 +253,7 @@ CASES: dict[str, Callable[[Trial, str], None]] = {
 
 def main() -> int:
     parser = Words(__doc__)
-    parser.add_argument("live", metavar="LIVE")
+    parser.add_argument("program", metavar="PROGRAM")
     parser.add_argument("--parcels", type=int, default=30_000)
     parser.add_argument("--zones", type=int, default=2_000)
     parser.add_argument("--times", type=int, default=1)
@@ -264,10 +264,8 @@ def main() -> int:
         folder.chmod(0o711)
         subprocess.run([PYTHON, LAB / "map_making.py", str(words.parcels), str(words.zones), folder],
                        check=True)
-        live = shutil.copy(words.live, folder / "overlay_live")
-        if (window := pathlib.Path(words.live).with_name("overlay_window")).is_file():
-            shutil.copy(window, folder / "overlay_window")
-        trial = Trial(str(live), folder)
+        program = shutil.copy(words.program, folder / "overlay_features")
+        trial = Trial(str(program), folder)
         trial.ended("one process", trial.begun("--jobs", "1"))
         print(f"{trial.done()} tasks, table {trial.table[:12]}", flush=True)
         for case in words.only or CASES:

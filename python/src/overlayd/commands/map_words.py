@@ -19,7 +19,6 @@ from ..files import coordinate_systems, gdal_files, map_columns, text_columns, w
 from ..files.arrow_reading import ReadingFault
 from ..files.map_columns import MapColumn
 from ..files.rounding import told_longer
-from ..geometry.whole_maps import MapFault as WritingFault
 from ..grid import scale as scales
 from ..grid_pass.default_grid import Unit
 from ..grid_pass.onto_grid import Noding
@@ -319,7 +318,7 @@ class Asking(click.Command):
             self.callback(question)
         except TasksLeft as left:
             question.say(str(left))
-        except (ReadingFault, WritingFault, AskFault) as fault:
+        except (ReadingFault, AskFault) as fault:
             return question.refused(str(fault), 2)
         except MapFault as fault:
             return question.refused(told_fault(fault, question.maps), 2)

@@ -16,9 +16,8 @@ from xml.sax.saxutils import escape, quoteattr, unescape
 
 from .. import ending
 from ..ending import Unusable
-from ..geometry.whole_maps import MapFault
 from . import coordinate_systems, writing
-from .gdal_maps import modules
+from .arrow_reading import ReadingFault
 
 Piece = tuple[Mapping[str, Any], bytes]
 """Properties, and Well-Known Binary of a multipolygon."""
@@ -31,6 +30,14 @@ DRIVERS = {".gpkg": "GPKG", ".fgb": "FlatGeobuf"}
 QUICKLY = {"OGR_SQLITE_SYNCHRONOUS": "OFF", "OGR_SQLITE_JOURNAL": "OFF"}
 DESCRIPTION = ("Exact areas are in the properties; coordinates are the doubles nearest to the exact ones, so a polygon "
                "may touch or cross itself by a rounding.")
+
+
+def modules() -> tuple[Any, Any]:
+    """GDAL and its part for features."""
+    from osgeo import ogr
+
+    gdal, _ = coordinate_systems.modules()
+    return gdal, ogr
 
 
 @dataclass
@@ -58,9 +65,9 @@ class Writing:
     def __post_init__(self) -> None:
         self.gdal, self.ogr = modules()
         if self.path.suffix not in DRIVERS:
-            raise MapFault(f"{self.path}: pieces are written as {', '.join(DRIVERS)} or .geojson")
+            raise ReadingFault(f"{self.path}: pieces are written as {', '.join(DRIVERS)} or .geojson")
         if self.path.exists() and not self.path.is_file():
-            raise MapFault(f"{self.path}: no file; GDAL writes pieces to files alone")
+            raise ReadingFault(f"{self.path}: no file; GDAL writes pieces to files alone")
 
     def take(self, pieces: Iterable[Piece]) -> None:
         """Writes all, so many a part; at least one part, that there is a file."""
@@ -118,7 +125,7 @@ class Writing:
                    and path not in earlier
                    and not (earlier and path == index)] if len(self.parts) > 1 else []
         if foreign:
-            raise MapFault(
+            raise ReadingFault(
                 f"{foreign[0]} stands, and was not named: {self.path} has {len(self.parts)} parts of such names; "
                 "move it away, or take another name")
         if len(self.parts) == 1:

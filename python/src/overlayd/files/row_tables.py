@@ -19,8 +19,7 @@ from ..kernel.overlaying import Overlay
 from ..kernel.rows import Relation
 from . import writing
 from .coordinate_systems import UNKNOWN, parsed
-from .gdal_maps import modules
-from .gdal_writing import QUICKLY, configured
+from .gdal_writing import QUICKLY, configured, modules
 
 HEADS = ("a", "b", "relation", "area", "bound", "area_a", "area_b")
 QUOTED = set(',"\r\n')  # marks for which a name is quoted

@@ -14,7 +14,6 @@ import numpy as np
 
 from .. import ending, grid
 from ..geometry import wkt
-from ..geometry.whole_maps import and_others
 from ..kernel.columns import Column, of_bytes
 from ..kernel.ring_walk import MULTIPOLYGON, POLYGON
 from ..kernel.shapes import shapes
@@ -25,7 +24,7 @@ from .coordinate_systems import UNKNOWN
 from .map_columns import MapColumn
 from .map_reading import Refused, Shape, Source
 
-NAMED_MAX = 10  # SRIDs that a refusal names
+NAMED_MAX = 10  # SRIDs, or features beside the first, that a refusal names
 FARTHEST_LONGITUDE, FARTHEST_LATITUDE = 360, 90
 
 
@@ -108,6 +107,15 @@ def read(path: str, name_by: str | None) -> MapColumn:
     system = crs or own_crs(source) or usual
     return MapColumn(path, column, np.array(reading.names, object), np.array(reading.labels, object),
                      None if system == UNKNOWN else system, reading.left_out, reading.longer)
+
+
+def and_others(labels: Iterable[str]) -> str:
+    """What follows the refusal of one feature where others are to be mended too: how many, and the first of them."""
+    others = list(dict.fromkeys(labels))
+    if not others:
+        return ""
+    more = ", .." if len(others) > NAMED_MAX else ""
+    return f"; {len(others)} more to be mended: {', '.join(others[:NAMED_MAX])}{more}"
 
 
 def shapes_of(source: Source) -> tuple[list[Shape], str | None, bool]:

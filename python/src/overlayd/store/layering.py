@@ -36,10 +36,12 @@ class Group:
 
     def overlaps(self) -> int:
         """How many pairs of polygons have boxes with a common part."""
-        from ..geometry import box_pairs  # takes numpy along, which few runs need
+        import numpy as np  # which few runs need
+
+        from ..kernel import box_pairs
 
         boxes: list[Any] = [Box.of_whole(polygon[0]) for polygon in self.polygons]  # of whole numbers
-        return len(box_pairs.pairs_within(boxes))
+        return len(box_pairs.pairs_within(np.array(boxes, np.int64).reshape(-1, 4)))
 
 
 @dataclass
