@@ -8,7 +8,7 @@ from .common import TOP
 
 SOURCES = TOP / "python/src/overlayd"
 ORDER = ("ending", "progress", "program", "program_files", "grid", "words", "geometry", "grid_pass", "kernel", "files",
-         "store", "maps", "web", "commands", "cli", "__main__")
+         "store", "maps", "register", "web", "commands", "cli", "__main__")
 
 
 def imports(path: pathlib.Path) -> set[str]:

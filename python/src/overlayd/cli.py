@@ -25,6 +25,7 @@ PURPOSES = {
     "pieces": "Write all pieces of two maps, common ones and those of one map alone.",
     "check": "List where features of one map overlap, and the gaps between them.",
     "derive": "Write what an expression over maps is, as (flood | slide) - parks.",
+    "register": "Keep what the features of a land register overlap, and follow each edit.",
     "task": "Do tasks of a --work folder: for xargs, GNU parallel, Slurm.",
 }
 # Subcommands whose module has another name.

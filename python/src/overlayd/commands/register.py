@@ -1,0 +1,292 @@
+"""Keeps what the features of a land register overlap: a GeoPackage whose layers are edited as ever, by any program, and
+in it tables of pairs, overlaps and derived areas that follow each edit.
+"""
+
+from __future__ import annotations
+
+import functools
+import signal
+from fractions import Fraction
+from pathlib import Path
+
+import click
+
+from ..ending import Unusable
+from ..files.gdal_writing import modules
+from ..kernel import Ask
+from ..program_files import found_program
+from ..register import sources, statements
+from ..register.answers import Program
+from ..register.auditing import audit as audited
+from ..register.filling import keep as begin_to_keep
+from ..register.gridding import grid_for
+from ..register.model import Kept, Kind, Refused, factor_of
+from ..register.package import GeoPackage
+from ..register.refreshing import refresh as refreshed
+from ..register.registers import Register
+from ..register.snapping import snap
+from ..register.watching import Watching
+
+FEATURES = "overlay_features"
+FILE = click.argument("file", metavar="FILE.gpkg")
+PROGRAM = click.option("--program", metavar="PATH", help="overlay_features, which is asked (default: that of this "
+                                                         "repository or of the path; else it is built)")
+GRID = click.option("--grid", metavar="UNIT", help="the grid, as 0.001 (default: by the layers' own digits)")
+
+
+def say(text: str) -> None:
+    """Tells something on standard error."""
+    click.echo(text, err=True)
+
+
+class Reporting(click.Group):
+    """The subcommands of a register, which end with status 2 where something is refused, and 1 where it cannot be done."""
+
+    def invoke(self, context: click.Context) -> int:
+        modules()
+        try:
+            return int(super().invoke(context) or 0)
+        except Refused as fault:
+            say(f"overlay register: {fault}")
+            return 2
+        except Unusable as fault:
+            say(f"overlay register: {fault}")
+            return 1
+
+
+@click.group("register", cls=Reporting, context_settings={"help_option_names": ["-h", "--help"], "max_content_width": 100})
+def command() -> None:
+    """Keeps what the features of a GeoPackage overlap, and follows each edit of any program.
+
+    Layers stay ordinary layers, which QGIS, ogr2ogr and SQL edit. Tables of results (overlay_result_NAME) stand beside
+    them in the same file: pairs of two layers with relation and common area, overlaps within one layer, areas of an
+    expression over layers. `refresh` brings them up to date once, `watch` for as long as it runs; only what is near a
+    change is worked out again.
+    """
+
+
+def opened(file: str) -> Register:
+    """The register of a file."""
+    register = Register(GeoPackage(file))
+    register.need()
+    return register
+
+
+def program_of(path: str | None, factor: Fraction) -> Program:
+    """How the program is asked."""
+    return Program(Ask(path or found_program(FEATURES)), factor)
+
+
+def ready(file: str, program: str | None) -> tuple[Register, Program]:
+    """A register and its program."""
+    register = opened(file)
+    return register, program_of(program, register.state().factor)
+
+
+def begun(file: str, names: list[str], grid: str | None, idents: dict[str, str], snaps: bool) -> None:
+    """Makes a register where none is there, and takes layers in, on its grid where that is wanted."""
+    register = Register(GeoPackage(file))
+    if not register.engine.is_register():
+        factor = factor_of(grid) if grid else grid_for(register.engine, names)
+        register.begin(factor)
+        say(f"the grid is {float(1 / factor):g}")
+    elif grid and factor_of(grid) != register.need().factor:
+        raise Refused(f"the register has a grid of {float(1 / register.need().factor):g} already")
+    for name in names:
+        register.engine.layer(name, idents.get(name))
+    if snaps:
+        snapped_onto(file, names, register.need().factor)
+    for name in names:
+        register.adopt(name, idents.get(name))
+        say(f"{name}: {len(register.engine.features(register.layer(name)).fids)} features")
+
+
+def snapped_onto(file: str, names: list[str], factor: Fraction) -> None:
+    """Takes layers onto a grid."""
+    engine = GeoPackage(file, writes_layers=True)
+    for name, count in snap(engine, [engine.layer(name, None) for name in names], factor).items():
+        if count:
+            say(f"{name}: {count} features are on the grid now, corners on borders of others taken into these")
+    engine.close()
+
+
+def idents_of(words: tuple[str, ...], names: list[str]) -> dict[str, str]:
+    """What calls the features of layers: LAYER=COLUMN, or COLUMN for all."""
+    found: dict[str, str] = {}
+    for word in words:
+        name, is_of_one, column = word.rpartition("=")
+        if is_of_one and name not in names:
+            raise Refused(f"--id {word}: no layer {name} among {', '.join(names)}")
+        found |= {name: column} if is_of_one else dict.fromkeys(names, column)
+    return found
+
+
+IDENT = click.option("--id", "idents", metavar="[LAYER=]COLUMN", multiple=True,
+                     help="what users call features: it stands in results beside the key")
+
+
+@command.command()
+@FILE
+@click.argument("files", metavar="SOURCE...", nargs=-1, required=True)
+@GRID
+@IDENT
+def init(file: str, files: tuple[str, ...], grid: str | None, idents: tuple[str, ...]) -> None:
+    """Makes a GeoPackage of maps in other files, and a register in it."""
+    if Path(file).exists():
+        raise Refused(f"{file} is there already: `overlay register adopt` makes a register in it")
+    if grid:
+        factor_of(grid)
+    names = [name for source in files for name in sources.copy(source, file)]
+    begun(file, names, grid, idents_of(idents, names), snaps=True)
+
+
+@command.command()
+@FILE
+@click.argument("source")
+@click.option("--layer", "layers", metavar="NAME", multiple=True, help="of several layers in the source these alone")
+@IDENT
+def add(file: str, source: str, layers: tuple[str, ...], idents: tuple[str, ...]) -> None:
+    """Copies layers of another file into a register."""
+    opened(file)
+    names = sources.copy(source, file, [*layers] or None)
+    begun(file, names, None, idents_of(idents, names), snaps=True)
+
+
+@command.command()
+@FILE
+@click.argument("layers", metavar="LAYER...", nargs=-1, required=True)
+@GRID
+@IDENT
+@click.option("--snap", "snaps", is_flag=True, help="bring their shapes onto the grid, all in one pass")
+def adopt(file: str, layers: tuple[str, ...], grid: str | None, idents: tuple[str, ...], snaps: bool) -> None:
+    """Takes layers that are in the file into its register, which is made where none is there. Their shapes are not
+    changed, but by --snap."""
+    begun(file, [*layers], grid, idents_of(idents, [*layers]), snaps)
+
+
+@command.command()
+@FILE
+@click.argument("layer")
+def remove(file: str, layer: str) -> None:
+    """Takes a layer out of the register, with its triggers and its index; the layer itself stays."""
+    opened(file).remove(layer)
+
+
+@command.group()
+def keep() -> None:
+    """Keeps a table of results, overlay_result_NAME."""
+
+
+def kept(file: str, program: str | None, one: Kept) -> None:
+    """Begins to keep a table."""
+    register, own = ready(file, program)
+    click.echo(f"{one.table()}: {begin_to_keep(register, one, own, say)} rows")
+
+
+@keep.command()
+@FILE
+@click.argument("name")
+@click.argument("a", metavar="LAYER")
+@click.argument("b", metavar="OTHER")
+@PROGRAM
+def pairs(file: str, name: str, a: str, b: str, program: str | None) -> None:
+    """Which features of two layers touch or overlap, how, and by how much."""
+    kept(file, program, Kept(name, Kind.PAIRS, a, b))
+
+
+@keep.command()
+@FILE
+@click.argument("name")
+@click.argument("layer")
+@PROGRAM
+def check(file: str, name: str, layer: str, program: str | None) -> None:
+    """Which features of one layer overlap, and by how much."""
+    kept(file, program, Kept(name, Kind.CHECK, layer, layer))
+
+
+@keep.command()
+@FILE
+@click.argument("name")
+@click.argument("expression")
+@click.option("--cell", metavar="UNITS", type=int, default=0,
+              help="how many units of the grid a cell is wide (default: about a mean feature)")
+@PROGRAM
+def derive(file: str, name: str, expression: str, cell: int, program: str | None) -> None:
+    """The area of an expression over layers, cell by cell: '(flood | slide) - parks'. A gap is what a district has and
+    no parcel: 'district - parcels'."""
+    kept(file, program, Kept(name, Kind.DERIVE, expression=expression, cell=cell))
+
+
+@command.command()
+@FILE
+@click.argument("name")
+def unkeep(file: str, name: str) -> None:
+    """Keeps a table of results no longer."""
+    opened(file).unkeep(name)
+
+
+@command.command()
+@FILE
+@PROGRAM
+def refresh(file: str, program: str | None) -> None:
+    """Brings all tables of results up to date, once."""
+    register, own = ready(file, program)
+    count = refreshed(register, own, say)
+    click.echo(f"{count} changes, version {register.state().version}")
+
+
+@command.command()
+@FILE
+@PROGRAM
+def watch(file: str, program: str | None) -> None:
+    """Keeps all tables of results up to date, until it is stopped (Ctrl+C, or a signal to end)."""
+    register, own = ready(file, program)
+    register.engine.close()
+    stopped: list[int] = []
+    for number in (signal.SIGINT, signal.SIGTERM):
+        signal.signal(number, lambda own, _: stopped.append(own))
+    Watching(functools.partial(GeoPackage, file), own, say).run(lambda: not stopped)
+
+
+@command.command()
+@FILE
+def status(file: str) -> None:
+    """Says of which state results are, what is pending, and what is wrong with features."""
+    register = opened(file)
+    state, engine = register.state(), register.engine
+    click.echo(f"grid {float(1 / state.factor):g}, version {state.version}" + (f" of {state.at}" if state.at else ""))
+    pending = {name: count for name, count in engine.ask(statements.PENDING_OF)}
+    for layer in register.layers().values():
+        armed = "" if engine.is_armed(layer) else "; its triggers are not as they were made: refresh makes them again"
+        click.echo(f"layer {layer.name}: {pending.get(layer.name, 0)} changes pending{armed}")
+    for one in register.kept():
+        rows, unanswered = register.count(one)
+        of = one.expression or " ".join(one.layers())
+        click.echo(f"{one.table()}: {one.kind.value} {of}, {rows} rows"
+                   + (f", {unanswered} without an answer" if unanswered else ""))
+    for what, count in engine.ask(statements.PROBLEMS_OF):
+        click.echo(f"problem: {count} features: {what}")
+
+
+@command.command()
+@FILE
+@click.option("--part", metavar="N", type=click.IntRange(1), default=1, help="only one of N features")
+@PROGRAM
+@click.pass_context
+def audit(context: click.Context, file: str, part: int, program: str | None) -> None:
+    """Works all results out anew and compares. Status 1: a table is not what it should be."""
+    register, own = ready(file, program)
+    found = audited(register, own, part)
+    for one in found:
+        click.echo(str(one))
+    if found and found[0].pending:
+        say(f"{found[0].pending} changes are pending: `overlay register refresh` first")
+    context.exit(0 if all(one.is_right() for one in found) else 1)
+
+
+@command.command()
+@FILE
+def upgrade(file: str) -> None:
+    """Brings the tables of an earlier version of this command over."""
+    register = Register(GeoPackage(file))
+    click.echo("brought over" if register.upgrade() else "the tables are of this version")

@@ -1,0 +1,193 @@
+"""A register in a GeoPackage."""
+
+from __future__ import annotations
+
+import contextlib
+import os
+import sqlite3
+import time
+from collections.abc import Callable, Iterable, Iterator, Sequence
+from pathlib import Path
+
+from . import statements
+from .blobs import box_of, well_known
+from .engines import Found, Row
+from .model import Layer, Refused
+from .package_triggers import quoted, triggers
+
+PATIENCE = 30.0  # seconds for which another's lock is waited for
+LOOK = 0.05  # seconds between two looks whether something has changed
+MOST_COLUMNS = 60  # of a layer that the log takes in: json_object takes 127 values at most
+EXTENSION = ("overlayd_register", "docs/register.md", "write-only")
+EXTENSIONS = ("CREATE TABLE IF NOT EXISTS gpkg_extensions (table_name TEXT, column_name TEXT, extension_name TEXT NOT"
+              " NULL, definition TEXT NOT NULL, scope TEXT NOT NULL, CONSTRAINT ge_tce UNIQUE (table_name, column_name,"
+              " extension_name))")
+INDEX = "CREATE VIRTUAL TABLE {} USING rtree(id, minx, maxx, miny, maxy, +digest BLOB)"
+NEAR = ("WHERE t.{key} IN (SELECT i.id FROM overlay_boxes q CROSS JOIN {index} i WHERE i.maxx >= q.minx"
+        " AND i.minx <= q.maxx AND i.maxy >= q.miny AND i.miny <= q.maxy)")
+OURS = ("SELECT name, sql FROM sqlite_master WHERE type = 'trigger' AND tbl_name = ? AND name LIKE 'overlay\\_%'"
+        " ESCAPE '\\'")
+
+
+class GeoPackage:
+    """A GeoPackage by one connection. One that writes layers has what the triggers of the standard's own index ask of
+    whoever writes; all others run no function that a file brings."""
+
+    def __init__(self, path: str, writes_layers: bool = False, patience: float = PATIENCE) -> None:
+        if not Path(path).is_file():
+            raise Refused(f"{path}: no such file")
+        self.path, self.writes_layers, self.patience = path, writes_layers, patience
+        self.db = sqlite3.connect(path, timeout=patience, isolation_level=None)
+        try:
+            if not self.ask("SELECT 1 FROM sqlite_master WHERE name = 'gpkg_contents'"):
+                raise Refused(f"{path}: no GeoPackage")
+        except sqlite3.DatabaseError as fault:
+            raise Refused(f"{path}: no GeoPackage: {fault}") from None
+        self.inode = os.stat(path).st_ino
+        self.ask("PRAGMA temp_store = MEMORY")
+        if writes_layers:
+            add_functions(self.db)
+        else:
+            self.ask("PRAGMA trusted_schema = OFF")
+
+    def ask(self, text: str, *values: object) -> list[Row]:
+        return self.db.execute(text, values).fetchall()
+
+    def many(self, text: str, rows: Iterable[Sequence[object]]) -> None:
+        self.db.executemany(text, rows)
+
+    def named(self, name: str) -> str:
+        return quoted(name)
+
+    @contextlib.contextmanager
+    def reading(self) -> Iterator[None]:
+        with self._transaction("BEGIN"):
+            yield
+
+    @contextlib.contextmanager
+    def writing(self) -> Iterator[None]:
+        with self._transaction("BEGIN IMMEDIATE"):
+            yield
+
+    @contextlib.contextmanager
+    def _transaction(self, begin: str) -> Iterator[None]:
+        self.db.execute(begin)
+        try:
+            yield
+            self.db.execute("COMMIT")
+        except BaseException:
+            with contextlib.suppress(sqlite3.Error):
+                self.db.execute("ROLLBACK")
+            raise
+
+    def is_register(self) -> bool:
+        return bool(self.ask("SELECT 1 FROM sqlite_master WHERE type = 'table' AND name = 'overlay_state'"))
+
+    def begin(self) -> None:
+        self.ask(EXTENSIONS)
+        for name, columns in statements.LISTED.items():
+            self.create(name, columns, is_listed=True)
+        for name, columns in statements.OWN.items():
+            self.create(name, columns, is_listed=False)
+
+    def create(self, name: str, columns: str, is_listed: bool) -> None:
+        body = columns.replace("id KEY", "id INTEGER PRIMARY KEY AUTOINCREMENT NOT NULL")
+        body = body.replace("BIGINT", "INTEGER").replace("DOUBLE PRECISION", "DOUBLE")  # the standard's own types
+        self.ask(f"CREATE TABLE {quoted(name)} ({body})")
+        self._tell_of(name, is_listed)
+
+    def _tell_of(self, name: str, is_listed: bool) -> None:
+        """Says of a table what it is: a table of attributes, or an extension's."""
+        if is_listed:
+            self.ask("INSERT OR IGNORE INTO gpkg_contents (table_name, data_type, identifier, srs_id)"
+                     " VALUES (?, 'attributes', ?, 0)", name, name)
+        else:
+            self.ask("INSERT OR IGNORE INTO gpkg_extensions VALUES (?, NULL, ?, ?, ?)", name, *EXTENSION)
+
+    def drop(self, name: str) -> None:
+        self.ask(f"DROP TABLE IF EXISTS {quoted(name)}")
+        for table in ("gpkg_contents", "gpkg_extensions", "gpkg_ogr_contents"):
+            if self.ask("SELECT 1 FROM sqlite_master WHERE name = ?", table):
+                self.ask(f"DELETE FROM {table} WHERE table_name = ?", name)
+
+    def schema(self) -> int:
+        return int(self.ask("PRAGMA main.schema_version")[0][0])
+
+    def layer(self, name: str, ident: str | None) -> Layer:
+        columns = self.ask("SELECT name, type, pk FROM pragma_table_info(?)", name)
+        if not columns:
+            raise Refused(f"{name}: no such layer in {self.path}")
+        geometries = self.ask("SELECT column_name FROM gpkg_geometry_columns WHERE table_name = ?", name)
+        if not geometries:
+            raise Refused(f"{name}: a table without geometry")
+        keys = [(column, kind) for column, kind, place in columns if place]
+        if len(keys) != 1 or keys[0][1].upper() != "INTEGER":
+            told = ", ".join(f"{column} ({kind})" for column, kind in keys) or "none"
+            raise Refused(f"{name}: its key is to be one whole number (INTEGER PRIMARY KEY), but is {told}")
+        if ident is not None and ident not in [column for column, _, _ in columns]:
+            raise Refused(f"{name}: no column {ident}; there are {', '.join(column for column, _, _ in columns)}")
+        return Layer(name, geometries[0][0], keys[0][0], ident)
+
+    def make_index(self, layer: Layer) -> None:
+        self.ask(INDEX.format(quoted(layer.index())))
+        self._tell_of(layer.index(), is_listed=False)
+
+    def _triggers(self, layer: Layer) -> dict[str, str]:
+        """The triggers of a layer as they are to be."""
+        names = [name for (name,) in self.ask("SELECT name FROM pragma_table_info(?)", layer.name)]
+        return triggers(layer, [name for name in names if name not in (layer.geom, layer.key)][:MOST_COLUMNS])
+
+    def arm(self, layer: Layer) -> None:
+        self.disarm(layer)
+        for text in self._triggers(layer).values():
+            self.ask(text)
+
+    def disarm(self, layer: Layer) -> None:
+        for name, _ in self.ask(OURS, layer.name):
+            self.ask(f"DROP TRIGGER {quoted(name)}")
+
+    def is_armed(self, layer: Layer) -> bool:
+        return {name: text for name, text in self.ask(OURS, layer.name)} == self._triggers(layer)
+
+    def features(self, layer: Layer, where: str = "") -> Found:
+        key, geom = quoted(layer.key), quoted(layer.geom)
+        ident = "NULL" if layer.ident is None else f"CAST(t.{quoted(layer.ident)} AS TEXT)"
+        rows = self.ask(f"SELECT t.{key}, t.{geom}, {ident} FROM {quoted(layer.name)} t {where} ORDER BY t.{key}")
+        return Found([row[0] for row in rows], [well_known(row[1]) for row in rows], [row[2] for row in rows])
+
+    def features_near(self, layer: Layer) -> Found:
+        return self.features(layer, NEAR.format(key=quoted(layer.key), index=quoted(layer.index())))
+
+    def second(self) -> GeoPackage:
+        return GeoPackage(self.path, self.writes_layers, self.patience)
+
+    def token(self) -> object:
+        return self.ask("PRAGMA data_version")[0][0]
+
+    def wait(self, seconds: float) -> None:
+        time.sleep(min(LOOK, seconds))
+
+    def is_replaced(self) -> bool:
+        """Whether another file has the name now."""
+        try:
+            return os.stat(self.path).st_ino != self.inode
+        except FileNotFoundError:
+            return True
+
+    def close(self) -> None:
+        self.db.close()
+
+
+def add_functions(db: sqlite3.Connection) -> None:
+    """What the triggers of a GeoPackage's own index ask of whoever writes."""
+    db.create_function("ST_IsEmpty", 1, lambda blob: None if blob is None else box_of(blob) is None, deterministic=True)
+    for place, name in enumerate(("ST_MinX", "ST_MinY", "ST_MaxX", "ST_MaxY")):
+        db.create_function(name, 1, edge_of(place), deterministic=True)
+
+
+def edge_of(place: int) -> Callable[[object], float | None]:
+    """One side of a geometry's box, as a function."""
+    def edge(blob: object) -> float | None:
+        box = box_of(blob)
+        return None if box is None else box[place]
+    return edge

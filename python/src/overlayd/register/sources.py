@@ -1,0 +1,37 @@
+"""Layers of other files that go into a GeoPackage, by GDAL."""
+
+from __future__ import annotations
+
+from pathlib import Path
+
+from ..files.gdal_writing import modules
+from .model import Refused
+
+
+def layers_of(source: str) -> list[str]:
+    """The layers of a file."""
+    gdal, _ = modules()
+    try:
+        file = gdal.OpenEx(source, gdal.OF_VECTOR | gdal.OF_READONLY)
+    except RuntimeError as fault:
+        raise Refused(f"{source}: {fault}") from None
+    return [file.GetLayer(number).GetName() for number in range(file.GetLayerCount())]
+
+
+def copy(source: str, target: str, names: list[str] | None = None) -> list[str]:
+    """Copies layers of a file into a GeoPackage, which is made where it is not there; what they are called there."""
+    gdal, _ = modules()
+    there, made = layers_of(source), []
+    for name in names or there:
+        if name not in there:
+            raise Refused(f"{source}: no layer {name}; there are {', '.join(there)}")
+        if Path(target).is_file() and name in layers_of(target):
+            raise Refused(f"{target} has a layer {name} already")
+        options = gdal.VectorTranslateOptions(format="GPKG", accessMode="append" if Path(target).exists() else None,
+                                              layers=[name], layerName=name, geometryType="PROMOTE_TO_MULTI")
+        try:
+            gdal.VectorTranslate(target, source, options=options)
+        except RuntimeError as fault:
+            raise Refused(f"{source}: {fault}") from None
+        made.append(name)
+    return made

@@ -1,0 +1,72 @@
+"""What is said to databases, for SQLite and PostgreSQL alike: ? is a value, {..} a name that an engine has quoted."""
+
+from __future__ import annotations
+
+# KEY is a whole number that the database gives; these are listed for people, in the order of their making.
+LISTED = {
+    "overlay_kept": "id KEY, name TEXT NOT NULL UNIQUE, kind TEXT NOT NULL, a TEXT, b TEXT, expression TEXT,"
+                    " cell BIGINT",
+    "overlay_pending": "id KEY, layer TEXT NOT NULL, fid BIGINT NOT NULL",
+    "overlay_problem": "id KEY, layer TEXT NOT NULL, fid BIGINT NOT NULL, what TEXT NOT NULL, kept TEXT",
+    "overlay_log": "id KEY, at TEXT NOT NULL, who TEXT, change BIGINT, layer TEXT NOT NULL, fid BIGINT NOT NULL,"
+                   " what TEXT NOT NULL, geom BLOB, old TEXT",
+}
+OWN = {
+    "overlay_state": "one INTEGER PRIMARY KEY CHECK (one = 1), form INTEGER NOT NULL, version BIGINT NOT NULL, at TEXT,"
+                     " schema_was BIGINT NOT NULL, factor TEXT NOT NULL",
+    "overlay_who": "one INTEGER PRIMARY KEY CHECK (one = 1), who TEXT, change BIGINT",
+    "overlay_layer": "name TEXT PRIMARY KEY, geom TEXT NOT NULL, key TEXT NOT NULL, ident TEXT",
+}
+PAIRS = ("id KEY, a BIGINT NOT NULL, b BIGINT NOT NULL, a_id TEXT, b_id TEXT, relation TEXT NOT NULL,"
+         " area DOUBLE PRECISION, bound DOUBLE PRECISION")
+CELLS = "id KEY, i BIGINT NOT NULL, j BIGINT NOT NULL, area DOUBLE PRECISION, bound DOUBLE PRECISION"
+INDEXES = {PAIRS: ("a, b", "b"), CELLS: ("i, j",)}  # the first of each is unique
+
+BEGIN_STATE = "INSERT INTO overlay_state (one, form, version, at, schema_was, factor) VALUES (1, ?, 0, NULL, 0, ?)"
+BEGIN_WHO = "INSERT INTO overlay_who (one, who, change) VALUES (1, NULL, NULL)"
+STATE = "SELECT form, version, at, schema_was, factor FROM overlay_state"
+SCHEMA_IS = "UPDATE overlay_state SET schema_was = ?"
+NEXT = "UPDATE overlay_state SET version = version + 1, at = ?"
+LAYERS = "SELECT name, geom, key, ident FROM overlay_layer ORDER BY name"
+ADD_LAYER = "INSERT INTO overlay_layer (name, geom, key, ident) VALUES (?, ?, ?, ?)"
+SET_LAYER = "UPDATE overlay_layer SET geom = ?, key = ? WHERE name = ?"
+DROP_LAYER = "DELETE FROM overlay_layer WHERE name = ?"
+KEPT = "SELECT name, kind, a, b, expression, cell FROM overlay_kept ORDER BY name"
+ADD_KEPT = "INSERT INTO overlay_kept (name, kind, a, b, expression, cell) VALUES (?, ?, ?, ?, ?, ?)"
+DROP_KEPT = "DELETE FROM overlay_kept WHERE name = ?"
+
+PENDING = "SELECT id, layer, fid FROM overlay_pending ORDER BY id"
+PENDING_OF = "SELECT layer, count(*) FROM overlay_pending GROUP BY layer ORDER BY layer"
+ADD_PENDING = "INSERT INTO overlay_pending (layer, fid) VALUES (?, ?)"
+DONE = "DELETE FROM overlay_pending WHERE id = ?"
+DROP_PENDING = "DELETE FROM overlay_pending WHERE layer = ?"
+PROBLEMS = "SELECT layer, fid, what, kept FROM overlay_problem ORDER BY layer, fid, what"
+PROBLEMS_OF = "SELECT what, count(*) FROM overlay_problem GROUP BY what ORDER BY what"
+ADD_PROBLEM = "INSERT INTO overlay_problem (layer, fid, what, kept) VALUES (?, ?, ?, ?)"
+DROP_PROBLEM = "DELETE FROM overlay_problem WHERE layer = ? AND fid = ?"
+DROP_PROBLEMS = "DELETE FROM overlay_problem WHERE layer = ?"
+DROP_PROBLEMS_OF_KEPT = "DELETE FROM overlay_problem WHERE kept = ?"
+
+COUNT = "SELECT count(*) FROM {result}"
+UNANSWERED = "SELECT count(*) FROM {result} WHERE area IS NULL"
+PAIR_ROWS = "SELECT a, b, a_id, b_id, relation, area, bound FROM {result}"
+ADD_PAIR = "INSERT INTO {result} (a, b, a_id, b_id, relation, area, bound) VALUES (?, ?, ?, ?, ?, ?, ?)"
+DROP_A = "DELETE FROM {result} WHERE a = ?"
+DROP_B = "DELETE FROM {result} WHERE b = ?"
+CELL_ROWS = "SELECT i, j, area, bound FROM {result}"
+ADD_CELL = "INSERT INTO {result} (i, j, area, bound) VALUES (?, ?, ?, ?)"
+DROP_CELL = "DELETE FROM {result} WHERE i = ? AND j = ?"
+
+MAKE_ASKED = "CREATE TEMP TABLE IF NOT EXISTS overlay_asked (fid BIGINT PRIMARY KEY)"
+NO_ASKED = "DELETE FROM overlay_asked"
+ADD_ASKED = "INSERT INTO overlay_asked (fid) VALUES (?)"
+IS_ASKED = "WHERE t.{key} IN (SELECT fid FROM overlay_asked)"
+MAKE_BOXES = ("CREATE TEMP TABLE IF NOT EXISTS overlay_boxes (minx DOUBLE PRECISION, miny DOUBLE PRECISION,"
+              " maxx DOUBLE PRECISION, maxy DOUBLE PRECISION)")
+NO_BOXES = "DELETE FROM overlay_boxes"
+ADD_BOX = "INSERT INTO overlay_boxes (minx, miny, maxx, maxy) VALUES (?, ?, ?, ?)"
+SEEN = "SELECT id, digest, minx, miny, maxx, maxy FROM {index} WHERE id IN (SELECT fid FROM overlay_asked)"
+DIGESTS = "SELECT id, digest FROM {index}"
+SIZES = "SELECT count(*), avg(maxx - minx), avg(maxy - miny) FROM {index}"
+ADD_SEEN = "INSERT INTO {index} (id, digest, minx, miny, maxx, maxy) VALUES (?, ?, ?, ?, ?, ?)"
+DROP_SEEN = "DELETE FROM {index} WHERE id = ?"
