@@ -7,8 +7,8 @@ import unittest
 from .common import TOP
 
 SOURCES = TOP / "python/src/overlayd"
-ORDER = ("ending", "progress", "program", "program_files", "grid", "words", "geometry", "grid_pass", "kernel", "files",
-         "store", "maps", "register", "web", "commands", "cli", "__main__")
+ORDER = ("ending", "progress", "program", "program_files", "grid", "words", "geometry", "grid_pass", "kernel", "api",
+         "files", "store", "maps", "register", "web", "commands", "cli", "__main__")
 
 
 def imports(path: pathlib.Path) -> set[str]:

@@ -1,3 +1,12 @@
-"""Exact overlays of polygon layers: a client of overlay_live, maps in and out of its stores, and a front."""
+"""Exact overlays of polygon layers: a client of overlay_live, maps in and out of its stores, and a front; and functions
+for GeoDataFrames: overlay, pairs, check, derive, dissolve, clip (api/).
+"""
 
 __version__ = "1.0"
+
+
+def __getattr__(name: str) -> object:
+    """A function for GeoDataFrames, which is loaded when it is used."""
+    from .api import named
+
+    return named(name)

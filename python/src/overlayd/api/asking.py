@@ -1,0 +1,61 @@
+"""How the functions ask: which program, and which grid, by the words of who calls them."""
+
+from __future__ import annotations
+
+import contextlib
+import os
+from collections.abc import Iterator
+from fractions import Fraction
+
+from ..grid_pass.default_grid import Unit
+from ..kernel import Ask, Grid, Wants
+from ..kernel.rows import BlockRefused
+from ..program_files import found_program
+
+FEATURES = "overlay_features"
+VARIABLE = "OVERLAY_FEATURES"  # names the program, where it is not at its place
+UNREADABLE, NO_OUTLINES = 76, 84  # faults of a block
+GridSize = float | str | Fraction | None
+
+
+WORDS = {UNREADABLE: "the expression cannot be read", NO_OUTLINES: "this overlay_features makes no outlines"}
+
+
+class NoAnswer(Exception):
+    """The program has no answer to some features, or to a whole question: by the number of a fault."""
+
+    def __init__(self, which: str, fault: int) -> None:
+        super().__init__(f"{which}: {WORDS.get(fault, 'the program has no answer')} (fault {fault} of docs/FORMAT.md)")
+        self.fault = fault
+
+
+def program_of(named: str | None) -> str:
+    """The program that is named, by the caller or the environment, else where it is found."""
+    return named or os.environ.get(VARIABLE) or found_program(FEATURES)
+
+
+def grid_of(size: GridSize, unit: Unit) -> Grid:
+    """The grid of a size in units of the maps, as 0.001 or "1/3"; the default one where none is said."""
+    if size is None:
+        return Grid(unit=unit)
+    try:
+        exact = Fraction(size if isinstance(size, str | Fraction) else repr(float(size)))
+    except (ValueError, ZeroDivisionError):
+        exact = Fraction(0)
+    if exact <= 0:
+        raise ValueError(f"grid_size: {size!r} is no number above 0, as 0.001")
+    return Grid(1 / exact, unit)
+
+
+def asked(program: str | None, size: GridSize, unit: Unit, wants: Wants) -> Ask:
+    """What is asked of the program."""
+    return Ask(program_of(program), wants, grid_of(size, unit))
+
+
+@contextlib.contextmanager
+def refusals_told(of: str) -> Iterator[None]:
+    """Says of what a question is that the program refuses whole."""
+    try:
+        yield
+    except BlockRefused as refused:
+        raise NoAnswer(of, refused.fault) from None

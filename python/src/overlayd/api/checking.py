@@ -1,0 +1,42 @@
+"""check: where features of one frame overlap, and the gaps between them."""
+
+from __future__ import annotations
+
+from typing import NamedTuple
+
+import geopandas
+import numpy as np
+
+from ..kernel import Wants
+from .asking import GridSize, asked, refusals_told
+from .frames import Frame, column_of, faults_told, need_polygons, shapes_of, unit_of, with_told
+from .pairing import AREA, BOUND
+from .pieces import checked
+
+GAP = "gap_area"
+
+
+class Checked(NamedTuple):
+    """What is wrong in one frame, the largest first; and whether the sums of areas agree with that."""
+
+    overlaps: Frame
+    gaps: Frame
+    closes: bool
+
+
+def check(df: Frame, *, grid_size: GridSize = None, program: str | None = None) -> Checked:
+    """The overlaps of features, by the labels index_left and index_right, with shared_area and its bound; and the gaps
+    that they enclose, with gap_area."""
+    need_polygons(df=df)
+    ask = asked(program, grid_size, unit_of(df), Wants.OUTLINES)
+    with faults_told(df=df), refusals_told("check"):
+        found = checked(column_of(df), ask, df.index)
+    laid = found.overlaps.laid
+    rows = found.overlaps.part(np.argsort(-found.overlaps.areas().doubles(), kind="stable"))
+    assert rows.outlines is not None
+    columns = {"index_left": df.index[rows.pairs[:, 0]], "index_right": df.index[rows.pairs[:, 1]],
+               AREA: rows.areas().doubles(), BOUND: rows.areas().bounds()}
+    overlaps = geopandas.GeoDataFrame(columns, geometry=shapes_of(rows.outlines, df.crs), crs=df.crs)
+    gaps = found.gaps.part(np.argsort(-found.gaps.areas, kind="stable"))
+    holes = geopandas.GeoDataFrame({GAP: gaps.areas}, geometry=shapes_of(gaps.outlines, df.crs), crs=df.crs)
+    return Checked(with_told(overlaps, laid, df=df), with_told(holes, laid, df=df), found.closes)
