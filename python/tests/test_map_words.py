@@ -437,6 +437,7 @@ class Outputs(WithMaps):
         self.assertFalse(out.exists())
 
     def test_a_link_and_a_neighbour_stay(self) -> None:
+        self.need_outlines()
         real, link, gaps = self.file("real.csv", "before", 0o640), self.folder / "o.csv", self.folder / "g.geojson"
         link.symlink_to(real)
         own = [self.file(name, "mine") for name in ("o.csv.new", "real.csv.new", "g.geojson.new")]
