@@ -2,6 +2,7 @@
 
 from __future__ import annotations
 
+import importlib
 import random
 import sqlite3
 import struct
@@ -196,7 +197,7 @@ def expected(path: Path, kept: Kept) -> dict[Row, Fraction]:
         return cells_expected(maps, kept)
     a, b = (maps[name or ""] for name in (kept.a, kept.b))
     of = combinations(sorted(a), 2) if kept.kind is Kind.CHECK else product(a, b)
-    found = {}
+    found: dict[Row, Fraction] = {}
     for i, j in of:
         row = relation(a[i], b[j])
         if row is not None and (kept.kind is Kind.PAIRS or row[0] != "touches"):
@@ -217,7 +218,7 @@ def cells_expected(maps: dict[str, dict[int, Feature]], kept: Kept) -> dict[Row,
     if not corners:
         return {}
     (west, south), (east, north) = ([edge(own) // kept.cell for own in zip(*corners)] for edge in (min, max))
-    found = {}
+    found: dict[Row, Fraction] = {}
     for i, j in product(range(west, east + 1), range(south, north + 1)):
         x, y, far_x, far_y = i * kept.cell, j * kept.cell, (i + 1) * kept.cell, (j + 1) * kept.cell
         core = [[(x, y), (far_x, y), (far_x, far_y), (x, far_y)]]
@@ -320,7 +321,7 @@ def by_ogr(path: Path, draw: random.Random, edits: int) -> None:
 
 def by_fiona(path: Path, draw: random.Random, edits: int) -> None:
     """Features that fiona appends."""
-    import fiona
+    fiona: Any = importlib.import_module("fiona")
     for _ in range(edits):
         with fiona.open(path, "a", layer="parcels") as sink:
             ring = rings_of(drawn(draw, 9))[0]

@@ -149,7 +149,7 @@ def test_watch_follows_edits_until_it_is_stopped(tmp_path: Path) -> None:
     process = subprocess.Popen(words, stderr=subprocess.PIPE, text=True)
     try:
         for seed in range(3):
-            works.by_ogr(own.path, random.Random(seed), 2)
+            works.by_sql(own.path, random.Random(seed), 2)
             end = time.monotonic() + SECONDS
             while own.ask("SELECT 1 FROM overlay_pending LIMIT 1") and time.monotonic() < end:
                 time.sleep(0.05)
@@ -193,7 +193,7 @@ def test_watch_opens_the_file_that_takes_the_place_of_another(tmp_path: Path) ->
 def test_a_register_is_edited_by_ogr2ogr(tmp_path: Path) -> None:
     own = land(tmp_path / "land.gpkg", 8)
     works.made(tmp_path / "more.gpkg", random.Random(80))
-    for words in (["-append", "-update"], ["-overwrite", "-update"], ["-append", "-upsert"]):
+    for words in (["-append", "-update"], ["-overwrite", "-update"], ["-append", "-upsert", "-preserve_fid"]):
         done = subprocess.run(["ogr2ogr", *words, str(own.path), str(tmp_path / "more.gpkg"), "parcels"],
                               capture_output=True, text=True, timeout=SECONDS, check=True)
         assert done.stderr == ""

@@ -4,6 +4,7 @@ from __future__ import annotations
 
 import random
 import struct
+from collections.abc import Callable
 from fractions import Fraction
 from pathlib import Path
 
@@ -65,7 +66,8 @@ def test_coordinates_become_the_nearest_whole_numbers() -> None:
 def test_doubles_that_stand_for_the_grid_are_on_it() -> None:
     draw = random.Random(7)
     numbers = [draw.randint(-6 * 10**9, 6 * 10**9) for _ in range(3000)]
-    for spelled in (lambda n: n / 1000, lambda n: n * 0.001):
+    ways: list[Callable[[int], float]] = [lambda number: number / 1000, lambda number: number * 0.001]
+    for spelled in ways:
         rings = [[(spelled(own + x), spelled(own + y)) for x, y in ((0, 0), (9, 0), (0, 7), (0, 0))] for own in numbers]
         assert taken(of_bytes([works.polygon(ring) for ring in rings]), FACTOR).told == []
 

@@ -76,7 +76,8 @@ def written(read: Shapes, done: OnGrid, x: Numbers, y: Numbers) -> tuple[Column,
     begins = np.flatnonzero(np.diff(own, prepend=-1))
     if not len(begins):
         return column, {}
-    edges = [edge(one[points], begins).tolist() for edge in (np.minimum.reduceat, np.maximum.reduceat) for one in (x, y)]
+    ends = np.minimum.reduceat, np.maximum.reduceat
+    edges = [edge(one[points], begins).tolist() for edge in ends for one in (x, y)]
     return column, dict(zip(own[begins].tolist(), zip(*edges)))
 
 
