@@ -4,10 +4,10 @@
 FOLDER] [--only PEER]..
 
 PROGRAM is the built overlay_features. The maps are those of ../map_making.py. Each peer reads both files and writes a
-table of the pairs whose common part has an area; of each are reported processor seconds and memory of the whole run, how
-many pairs it has, and how these differ from ours. Needs python3-gdal, -numpy, -shapely, -geopandas, -rtree and, for PostGIS,
-postgresql-15-postgis-3; a peer that is not there is left out, and reported. All is done once, on one processor at a
-time.
+table of the pairs whose common part has an area; of each are reported processor seconds and memory of the whole run,
+how many pairs it has, and how these differ from ours. Needs python3-gdal, -numpy, -shapely, -geopandas, -rtree and,
+for PostGIS, postgresql-15-postgis-3; a peer that is not there is left out, and reported. All is done once, on one
+processor at a time.
 """
 
 from __future__ import annotations

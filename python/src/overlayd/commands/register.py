@@ -40,7 +40,8 @@ def say(text: str) -> None:
 
 
 class Reporting(click.Group):
-    """The subcommands of a register, which end with status 2 where something is refused, and 1 where it cannot be done."""
+    """The subcommands of a register, which end with status 2 where something is refused, and 1 where it cannot be
+    done."""
 
     def invoke(self, context: click.Context) -> int:
         modules()
@@ -54,7 +55,8 @@ class Reporting(click.Group):
             return 1
 
 
-@click.group("register", cls=Reporting, context_settings={"help_option_names": ["-h", "--help"], "max_content_width": 100})
+@click.group("register", cls=Reporting,
+             context_settings={"help_option_names": ["-h", "--help"], "max_content_width": 100})
 def command() -> None:
     """Keeps what the features of a GeoPackage overlap, and follows each edit of any program.
 
