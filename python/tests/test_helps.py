@@ -22,7 +22,7 @@ def ran(*words: object) -> subprocess.CompletedProcess[str]:
 
 class Helps(unittest.TestCase):
     def test_each_subcommand_says_what_it_does(self) -> None:
-        self.assertEqual(len(PURPOSES), 13)
+        self.assertEqual(len(PURPOSES), 14)
         for name in PURPOSES:
             done = ran(*OVERLAY, name, "--help")
             self.assertEqual((done.returncode, done.stderr), (0, ""), name)
@@ -37,7 +37,7 @@ class Helps(unittest.TestCase):
                               check=True, timeout=SECONDS)
         listed, _, modules = done.stdout.rstrip().rpartition("\n")
         self.assertEqual(re.findall(r"^  ([a-z]+)  ", listed.partition("Subcommands:")[2], re.M), list(PURPOSES))
-        self.assertEqual(modules, "['overlayd', 'overlayd.cli', 'overlayd.ending']")
+        self.assertEqual(modules, "['overlayd', 'overlayd.api', 'overlayd.cli', 'overlayd.ending']")
 
     def test_a_word_that_is_no_subcommand_is_refused(self) -> None:
         done = ran(*OVERLAY, "to_script")
