@@ -47,10 +47,17 @@ class Helps(unittest.TestCase):
         for words in (
             ("show", "m.json", "--folder"), ("dump", "m.db", "--output"), ("export", "--store"), ("rings", "--scale"),
             ("import", "m.json", "--factor"), ("svg", "--store"), ("which", "--scale"), ("serve", "--store"),
+            ("pairs", "a", "b", "--grid"), ("pieces", "a", "b", "--a-id"), ("check", "a", "--where"),
+            ("derive", "a", "a=b", "--out"), ("task", "w", "1", "--program"), ("register", "refresh", "m", "--program"),
         ):
             done = ran(*OVERLAY, *words, "1", words[-1], "1")
             told = f"Error: Option '{words[-1]}' is given twice.\n"
             self.assertEqual((done.returncode, done.stdout, done.stderr.endswith(told)), (2, "", True), done.stderr)
+
+    def test_an_option_is_given_once_by_whichever_of_its_names(self) -> None:
+        done = ran(*OVERLAY, "check", "a", "--where", "x", "--a-where=y")
+        self.assertEqual((done.returncode, done.stderr.splitlines()[-1:]),
+                         (2, ["Error: Option '--a-where' is given twice."]))
 
     def test_what_may_be_given_several_times_is_taken_so(self) -> None:
         given = "-5 --name b --name=-b --exact --exact --origin -1 -5/3 --dask -- -a".split()

@@ -12,9 +12,9 @@ from . import progress
 from .ending import Unusable
 
 TOP = pathlib.Path(__file__).resolve().parents[3]
-LIVE = "overlay_live"
+LIVE, FEATURES = "overlay_live", "overlay_features"
 BUILDER, BUILD_SECONDS = "python/lab/overlayd_lab/unproved.py", 120
-PROGRAM_HELP = ("overlay_live, which is asked (default: that of crates/*/out of this repository, else of its top, "
+PROGRAM_HELP = ("{}, which is asked (default: that of crates/*/out of this repository, else of its top, "
                 "else on the path; else it is built)")
 
 

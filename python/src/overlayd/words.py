@@ -10,16 +10,18 @@ The function is given all words by their names, and gives the status. A combinat
 
 from __future__ import annotations
 
+import inspect
 import pathlib
 import re
 from collections.abc import Callable, Sequence
+from fractions import Fraction
 from types import SimpleNamespace
 from typing import Any
 
 import click
 
 from .grid import scale as scales
-from .program_files import PROGRAM_HELP
+from .program_files import LIVE, PROGRAM_HELP
 
 NEGATIVE = re.compile(r"-\.?[0-9]")  # how a word begins that is a number, and no option
 
@@ -33,13 +35,13 @@ class Command(click.Command):
     given once."""
 
     def format_help_text(self, context: click.Context, formatter: click.HelpFormatter) -> None:
-        formatter.write(f"\n{(self.help or '').strip()}\n")
+        formatter.write(f"\n{inspect.cleandoc(self.help or '')}\n")
 
     def parse_args(self, context: click.Context, args: list[str]) -> list[str]:
         if context.resilient_parsing:  # of a line that is not yet whole
             return super().parse_args(context, args)
         options = {name: one for one in self.params if isinstance(one, click.Option) for name in one.opts}
-        named, plain, given, left = list[str](), list[str](), set[str](), list(args)
+        named, plain, given, left = list[str](), list[str](), set[str | None](), list(args)
         while left:
             word = left.pop(0)
             name, has_value, _ = word.partition("=")
@@ -51,9 +53,9 @@ class Command(click.Command):
                 named.append(word)
                 option = options.get(name)
                 if option and not option.is_flag:
-                    if name in given and not option.multiple:
+                    if option.name in given and not option.multiple:
                         raise click.BadOptionUsage(name, f"Option {name!r} is given twice.", context)
-                    given.add(name)
+                    given.add(option.name)
                     named += [] if has_value else values(option, left, context)
         return super().parse_args(context, [*named, "--", *plain])
 
@@ -87,24 +89,53 @@ class Typed(click.ParamType):
             self.fail(str(fault), param, context)
 
 
-FILE = click.Path(path_type=pathlib.Path, readable=False)
+class Group(click.Group):
+    """Subcommands of a subcommand."""
+
+    command_class = Command
+    group_class = type
+
+
+class File(click.Path):
+    """A name of a file, of one letter at least."""
+
+    def convert(self, value: Any, param: click.Parameter | None, context: click.Context | None) -> Any:
+        return super().convert(value, param, context) if value else self.fail("no name of a file", param, context)
+
+
+def above_zero(text: str) -> Fraction:
+    """The number that a word spells, above 0."""
+    found = scales.number(text)
+    if found <= 0:
+        raise ValueError(f"{text} is not above 0")
+    return found
+
+
+FILE = File(path_type=pathlib.Path, readable=False)
 NUMBER = Typed("number", scales.number)
+ABOVE_ZERO = Typed("number", above_zero)
 CRS = Typed("name", scales.crs)
 
 
 def option(name: str, text: str, of: Any = None, **more: Any) -> click.Option:
+    """An option with a value. Several names of it are apart by blanks, and so is what the function calls it."""
     return click.Option(name.split(), type=of, help=text, **more)
 
 
 def flag(name: str, text: str) -> click.Option:
-    return click.Option([name], is_flag=True, help=text)
+    return click.Option(name.split(), is_flag=True, help=text)
 
 
 def argument(name: str, of: Any = None, **more: Any) -> click.Argument:
     return click.Argument([name], type=of, **more)
 
 
-PROGRAM = option("--program", PROGRAM_HELP, metavar="PATH")
+def program(name: str) -> click.Option:
+    """Where a program is that a subcommand asks."""
+    return option("--program", PROGRAM_HELP.format(name), metavar="PATH")
+
+
+PROGRAM = program(LIVE)
 
 
 def subcommand(text: str | None, *params: click.Parameter) -> Callable[[Callable[[Words], int]], Command]:

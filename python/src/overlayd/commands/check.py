@@ -4,7 +4,6 @@ from __future__ import annotations
 
 import pathlib
 
-import click
 import numpy as np
 
 from ..files import shape_files
@@ -14,27 +13,18 @@ from ..kernel.checking import Check, TooDeep
 from ..kernel.measuring import widths
 from ..kernel.overlaying import Overlay
 from ..kernel.polygons import Polygons
+from ..words import FILE, argument, flag, option
 from . import map_words, pairs
-from .map_words import FILE, Question
+from .map_words import Question
 
 
 @map_words.question(
-    "check",
-    click.argument("first", metavar="A"),
-    *map_words.words("a"),
-    click.option("--out", type=FILE, metavar="FILE", help="the table: .csv, .npy (numbers of features alone) or .gpkg "
-                 "(default: standard output)"),
-    click.option("--gaps", type=FILE, metavar="FILE", help="the gaps as shapes: .geojson, .gpkg or .fgb"),
-    click.option("--exact", is_flag=True, help="a column with the area as a fraction more"),
-    click.option("--width", is_flag=True,
-                 help="a column with the width more: area by "
-                 "perimeter, about half of a strip's width"),
-    click.option("--outlines", is_flag=True, help="what two features have, as shapes of a .gpkg"),
-    click.option("--no-audit", is_flag=True, help="leave the audit out"))
+    "check", argument("first", metavar="A"), *map_words.words("a"), *map_words.table_words(),
+    option("--gaps", "the gaps as shapes: .geojson, .gpkg or .fgb", FILE, metavar="FILE"),
+    flag("--no-audit", "leave the audit out"))
 def command(question: Question) -> None:
     """List where features of one map overlap, and the gaps between them.
 
-    \b
         overlay check parcels.gpkg --grid 0.001 --a-id nr --out overlaps.csv --gaps gaps.gpkg
 
     Coordinates go onto a grid once, as one line says; all after that is exact. The table has the pairs that overlap,
@@ -113,6 +103,3 @@ def audit(found: Check, question: Question) -> None:
         question.say("audit: areas do NOT close: of layers, frame, overlaps they are off by "
                      f"{max([abs(part) for part in [*own.colours, own.frame]])} and {own.deeper} parts of 2^-41")
         question.status = 1
-
-
-main = command.run

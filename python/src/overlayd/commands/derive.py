@@ -10,20 +10,18 @@ from ..files import shape_files
 from ..files.arrow_reading import ReadingFault
 from ..kernel import Wants, derive
 from ..kernel.deriving import NAME, UnknownMap
+from ..words import FILE, argument, option
 from . import map_words
-from .map_words import FILE, Question
+from .map_words import Question
 
 
 @map_words.question(
-    "derive",
-    click.argument("expression", metavar="EXPRESSION"),
-    click.argument("names", metavar="NAME=FILE..", nargs=-1, required=True),
-    *map_words.words("a"),
-    click.option("--out", type=FILE, metavar="FILE", help="its polygons, each with its area: .geojson, .gpkg or .fgb"))
+    "derive", argument("expression", metavar="EXPRESSION"),
+    argument("names", metavar="NAME=FILE..", nargs=-1, required=True), *map_words.words("a"),
+    option("--out", "its polygons, each with its area: .geojson, .gpkg or .fgb", FILE, metavar="FILE"))
 def command(question: Question) -> None:
     """Write what an expression over maps is.
 
-    \b
         overlay derive "(flood | slide) - parks" flood=flood.gpkg slide=slide.gpkg parks=parks.geojson --out risk.gpkg
 
     A map is the union of its features; & is what both have, | what one of them has, - what the first has and not the
@@ -51,7 +49,7 @@ def command(question: Question) -> None:
         assert found.polygons is not None
         shape_files.write(out, found.polygons.outlines, {"area": found.polygons.areas.tolist()}, question.system())
         question.say(f"{len(found.polygons.areas)} polygons in {out}")
-    print(f"area,bound\n{found.area.doubles()[0]!r},{found.area.bounds()[0]!r}", file=question.output)
+    print(f"area,bound\n{found.area.doubles()[0]!r},{found.area.bounds()[0]!r}")
 
 
 def parted(text: str) -> tuple[str, str]:
@@ -60,6 +58,3 @@ def parted(text: str) -> tuple[str, str]:
     if not between or not NAME.fullmatch(name):
         raise click.UsageError(f"{text}: a map is named as NAME=FILE, the name of letters, digits and _")
     return name, path
-
-
-main = command.run

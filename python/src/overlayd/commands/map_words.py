@@ -8,8 +8,7 @@ import pathlib
 import sys
 from collections.abc import Callable, Sequence
 from dataclasses import dataclass, field
-from fractions import Fraction
-from typing import Any, TextIO
+from typing import Any
 
 import click
 
@@ -19,7 +18,6 @@ from ..files import coordinate_systems, gdal_files, map_columns, text_columns, w
 from ..files.arrow_reading import ReadingFault
 from ..files.map_columns import MapColumn
 from ..files.rounding import told_longer
-from ..grid import scale as scales
 from ..grid_pass.default_grid import Unit
 from ..grid_pass.onto_grid import Noding
 from ..kernel import Ask, Grid, MapFault, Wants
@@ -32,96 +30,67 @@ from ..kernel.running import ProgramEnded
 from ..maps.asking import AskFault, Doing, Shown
 from ..maps.engines import TasksLeft
 from ..maps.tasks import stamp
-from ..program_files import found_program
+from ..program_files import FEATURES, found_program
 from ..store.opening import is_store
+from ..words import ABOVE_ZERO, FILE, Command, Words, flag, option, program, subcommand
 
-PROGRAM = "overlay_features"
 NAMED_MAX = 10  # so many features are named where something is reported of them
 UNITS = {"degree": Unit.DEGREE, None: Unit.UNKNOWN}
-Say = Callable[[str], None]
-Option = Callable[[Any], Any]
+PROGRAM = program(FEATURES)
 
 
-class File(click.Path):
-    """A name of a file, of one letter at least."""
-
-    def convert(self, value: Any, param: click.Parameter | None, ctx: click.Context | None) -> Any:
-        if not value:
-            self.fail("no name of a file", param, ctx)
-        return super().convert(value, param, ctx)
-
-
-class Number(click.ParamType):
-    """A number above 0: a decimal or a fraction."""
-
-    name = "number"
-
-    def convert(self, value: Any, param: click.Parameter | None, ctx: click.Context | None) -> Fraction:
-        try:
-            found = value if isinstance(value, Fraction) else scales.number(value)
-        except ValueError:
-            self.fail(f"{value!r} is no number", param, ctx)
-        if found <= 0:
-            self.fail(f"{value!r} is not above 0", param, ctx)
-        return Fraction(found)
-
-
-SETTINGS = {"help_option_names": ["-h", "--help"], "max_content_width": 100}
-FILE = File(path_type=pathlib.Path)
-COUNT = click.IntRange(0, 9999)
-
-
-def words(sides: str) -> list[Option]:
+def words(sides: str) -> list[click.Parameter]:
     """The words of a question over maps that are called by these letters."""
-    options = [
-        click.option("--grid", type=Number(), help="the grid's unit, as 0.001 for millimetres of a map in metres "
-                     "(default: the coordinates' own digits, else 1e-8 degrees or 0.001 metres or feet)"),
-        click.option("--factor", type=Number(), help="the same as so many units in one of the maps': 1000 is --grid "
-                     "0.001"),
-        click.option("--bend", is_flag=True, hidden=True),  # long edges are bent without it, too
-        click.option("--node", is_flag=True, help="takes corners into borders that they lie on, also where nothing is "
-                     "rounded")]
+    found: list[click.Parameter] = [
+        option("--grid", "the grid's unit, as 0.001 for millimetres of a map in metres (default: the coordinates' own "
+               "digits, else 1e-8 degrees or 0.001 metres or feet)", ABOVE_ZERO),
+        option("--factor", "the same as so many units in one of the maps': 1000 is --grid 0.001", ABOVE_ZERO),
+        click.Option(["--bend"], is_flag=True, hidden=True),  # long edges are bent without it, too
+        flag("--node", "takes corners into borders that they lie on, also where nothing is rounded")]
     for side in sides:
         up = side.upper()
-        options += [
-            click.option(f"--{side}-id", metavar="PROPERTY", help=f"what calls the features of {up} (default: their "
-                         "numbers in the file, from 1 in GeoJSON, else as GDAL and QGIS count: from 0 in a Shapefile, "
-                         "FlatGeobuf or GML)"),
-            click.option(f"--{side}-layer", metavar="NAME", help=f"the layer of {up}, where its file has several"),
-            click.option(f"--{side}-where", *(["--where"] if side == "a" else []), metavar="CONDITION",
-                         help=f"which features of {up} are taken, as OGR's SQL says it: \"kind = 'meadow'\"")]
-    options += [
-        click.option("--processes", "--jobs", type=COUNT, default=lambda: os.cpu_count() or 1, metavar="N",
-                     help="programs at once (default: one for each processor); 0: tasks are only written"),
-        click.option("--dask", is_flag=False, flag_value="", metavar="ADDRESS", help="workers of Dask: of the "
-                     "scheduler there, or of this machine where none is named"),
-        click.option("--work", type=FILE, metavar="FOLDER", help="keeps tasks and results there; the same call goes on "
-                     "with them"),
-        click.option("--at-once", type=click.IntRange(1), default=20_000, metavar="N", help="pairs of features in one "
-                     "block (default: 20000)"),
-        program_word]
-    return options
+        found += [
+            option(f"--{side}-id", f"what calls the features of {up} (default: their numbers in the file, from 1 in "
+                   "GeoJSON, else as GDAL and QGIS count: from 0 in a Shapefile, FlatGeobuf or GML)",
+                   metavar="PROPERTY"),
+            option(f"--{side}-layer", f"the layer of {up}, where its file has several", metavar="NAME"),
+            option(f"--{side}-where" + (" --where" if side == "a" else ""), f"which features of {up} are taken, as "
+                   "OGR's SQL says it: \"kind = 'meadow'\"", metavar="CONDITION")]
+    return [
+        *found,
+        option("--processes --jobs", "programs at once (default: one for each processor); 0: tasks are only written",
+               click.IntRange(0, 9999), default=lambda: os.cpu_count() or 1, metavar="N"),
+        option("--dask", "workers of Dask: of the scheduler there, or of this machine where none is named",
+               is_flag=False, flag_value="", metavar="ADDRESS"),
+        option("--work", "keeps tasks and results there; the same call goes on with them", FILE, metavar="FOLDER"),
+        option("--at-once", "pairs of features in one block (default: 20000)", click.IntRange(1), default=20_000,
+               metavar="N"),
+        PROGRAM]
 
 
-program_word = click.option("--program", metavar="PATH",
-                            help="overlay_features (default: as the other tools find theirs)")
+def table_words() -> list[click.Parameter]:
+    """The words of a table of pairs."""
+    return [
+        option("--out", "the table: .csv, .npy (numbers of features alone) or .gpkg (default: standard output)", FILE,
+               metavar="FILE"),
+        flag("--exact", "a column with the area as a fraction more"),
+        flag("--width", "a column with the width more: area by perimeter, about half of a strip's width"),
+        flag("--outlines", "what two features have, as shapes of a .gpkg")]
 
 
 @dataclass
 class Question:
-    """A question as its words ask it: its name, all words, where tables and lines go, and what is not answered."""
+    """A question as its words ask it: its name, all words, and what is not answered."""
 
     name: str
     words: dict[str, Any]
-    output: TextIO
-    errors: TextIO
     status: int = 0
     shown: Shown | None = None
     maps: list[MapColumn] = field(default_factory=list)
 
     def say(self, text: str) -> None:
         """A line on standard error."""
-        print(text, file=self.errors)
+        print(text, file=sys.stderr)
 
     def read(self, paths: Sequence[str], sides: Sequence[str]) -> list[MapColumn]:
         """The maps, of one system of coordinates."""
@@ -157,6 +126,8 @@ class Question:
     def ask(self, wants: Wants) -> Ask:
         """How the kernel is to ask."""
         given = self.words
+        if given["grid"] is not None and given["factor"] is not None:
+            raise click.UsageError("--grid and --factor say the same; leave one of them out")
         factor = given["factor"] if given["grid"] is None else 1 / given["grid"]
         unit = UNITS.get(coordinate_systems.unit_of(self.system()), Unit.LENGTH)
         self.shown = Shown(self.name, self.say)
@@ -165,7 +136,7 @@ class Question:
                     if name not in ELSEWHERE}}
         doing = Doing(self.name, asked, self.say, given["processes"], given["dask"], given["work"])
         grid = Grid(factor, unit, Noding.ASKED if given["node"] else Noding.WHERE_MOVED)
-        program = os.path.abspath(given["program"] or found_program(PROGRAM))
+        program = program_of(given)
         return Ask(program, wants, grid, self.shown, given["at_once"], doing.runs)
 
     def tell_grid(self, laid: Laid) -> None:
@@ -291,72 +262,46 @@ def is_one(path: pathlib.Path, other: pathlib.Path) -> bool:
     return path.resolve() == other.resolve() or (path.exists() and other.exists() and path.samefile(other))
 
 
+def program_of(given: dict[str, Any]) -> str:
+    """The program that is asked."""
+    return os.path.abspath(given["program"] or found_program(FEATURES))
+
+
 Asked = Callable[[Question], None]
 
 
-class Asking(click.Command):
-    """A question as a command, which ends with its status."""
-
-    def parse_args(self, ctx: click.Context, args: list[str]) -> list[str]:
-        """Refuses an option of one value that is given twice."""
-        known = {name: option for option in self.params for name in option.opts if name.startswith("--")}
-        given = [known[word.partition("=")[0]].opts[0] for word in args if word.partition("=")[0] in known]
-        for option, count in collections.Counter(given).items():
-            if count > 1:
-                raise click.UsageError(f"{option}: given twice", ctx)
-        left = super().parse_args(ctx, args)
-        if ctx.params.get("grid") is not None and ctx.params.get("factor") is not None:
-            raise click.UsageError("--grid and --factor say the same; leave one of them out", ctx)
-        return left
-
-    def invoke(self, ctx: click.Context) -> int:
-        """Asks: 0 where all is answered, 1 where something is not or cannot be written, 2 where a word or a map is
-        refused, and nothing is written."""
-        assert self.callback is not None
-        question = Question(self.name or "", ctx.params, *(ctx.obj or (sys.stdout, sys.stderr)))
-        try:
-            self.callback(question)
-        except TasksLeft as left:
-            question.say(str(left))
-        except (ReadingFault, AskFault) as fault:
-            return question.refused(str(fault), 2)
-        except MapFault as fault:
-            return question.refused(told_fault(fault, question.maps), 2)
-        except BlockRefused as fault:
-            told = "this program makes no outlines; leave out what asks for them"
-            return question.refused(told if fault.fault == NO_OUTLINES else str(fault), 1)
-        except (Unusable, ProgramEnded, NoAnswer, TooManyColours) as fault:
-            return question.refused(str(fault), 1)
-        except OSError as fault:
-            if isinstance(fault, BrokenPipeError) or fault.filename is None:
-                raise
-            return question.refused(ending.told(fault.filename, fault), 1)
-        finally:
-            question.end()
-        return question.status
-
-    def run(self, arguments: Sequence[str], output: TextIO | None = None, errors: TextIO | None = None) -> int:
-        """The status of a call by its words; wrong ones are reported."""
-        told = errors or sys.stderr
-        try:
-            with self.make_context(f"overlay {self.name}", [*arguments], obj=(output or sys.stdout, told)) as ctx:
-                return self.invoke(ctx)
-        except click.exceptions.Exit as ended:
-            return ended.exit_code
-        except click.ClickException as fault:
-            fault.show(told)
-            return fault.exit_code
+def status_of(question: Question, asked: Asked) -> int:
+    """Asks: 0 where all is answered, 1 where something is not or cannot be written, 2 where a word or a map is refused,
+    and nothing is written."""
+    try:
+        asked(question)
+    except TasksLeft as left:
+        question.say(str(left))
+    except (ReadingFault, AskFault) as fault:
+        return question.refused(str(fault), 2)
+    except MapFault as fault:
+        return question.refused(told_fault(fault, question.maps), 2)
+    except BlockRefused as fault:
+        no_outlines = "this program makes no outlines; leave out what asks for them"
+        return question.refused(no_outlines if fault.fault == NO_OUTLINES else str(fault), 1)
+    except (Unusable, ProgramEnded, NoAnswer, TooManyColours) as fault:
+        return question.refused(str(fault), 1)
+    except OSError as fault:
+        if isinstance(fault, BrokenPipeError) or fault.filename is None:
+            raise
+        return question.refused(ending.told(fault.filename, fault), 1)
+    finally:
+        question.end()
+    return question.status
 
 
-def question(name: str, *options: Option) -> Callable[[Asked], Asking]:
-    """A question as the command of a name, with these words; the text of what asks it is its help."""
+def question(name: str, *params: click.Parameter) -> Callable[[Asked], Command]:
+    """A question as the subcommand of a name, with these words; the text of what asks it is its help."""
 
-    def made(asked: Asked) -> Asking:
-        function: Any = asked
-        for option in reversed(options):
-            function = option(function)
-        found: click.Command = click.command(name, cls=Asking, context_settings=SETTINGS)(function)
-        assert isinstance(found, Asking)
-        return found
+    def made(asked: Asked) -> Command:
+        def ask(given: Words) -> int:
+            return status_of(Question(name, vars(given)), asked)
+
+        return subcommand(asked.__doc__, *params)(ask)
 
     return made

@@ -3,6 +3,7 @@
 from __future__ import annotations
 
 import pathlib
+import sys
 from collections.abc import Mapping
 from typing import Any
 
@@ -15,29 +16,19 @@ from ..kernel import Wants, overlay
 from ..kernel.measuring import widths
 from ..kernel.overlaying import Overlay
 from ..kernel.rows import Relation
+from ..words import argument
 from . import map_words
-from .map_words import FILE, Question
+from .map_words import Question
 
 ENDS = (".csv", ".npy", ".gpkg")
 DIGITS_OF_EXACT = 1000
 
 
-@map_words.question(
-    "pairs",
-    click.argument("first", metavar="A"),
-    click.argument("second", metavar="B"),
-    *map_words.words("ab"),
-    click.option("--out", type=FILE, metavar="FILE", help="the table: .csv, .npy (numbers of features alone) or .gpkg "
-                 "(default: standard output)"),
-    click.option("--exact", is_flag=True, help="a column with the area as a fraction more"),
-    click.option("--width", is_flag=True,
-                 help="a column with the width more: area by "
-                 "perimeter, about half of a strip's width"),
-    click.option("--outlines", is_flag=True, help="what both have, as shapes of a .gpkg"))
+@map_words.question("pairs", argument("first", metavar="A"), argument("second", metavar="B"), *map_words.words("ab"),
+                    *map_words.table_words())
 def command(question: Question) -> None:
     """List which features of two maps overlap or touch, and by how much.
 
-    \b
         overlay pairs parcels.gpkg zones.gpkg --grid 0.001 --a-id nr --b-id code --out pairs.csv
 
     Coordinates go onto a grid once, as one line says; all after that is exact. A row has what calls both features,
@@ -94,7 +85,7 @@ def write(question: Question, rows: Overlay, a: Numbers, b: Numbers) -> None:
     named = Named(rows, a, b, more)
     out: pathlib.Path | None = given["out"]
     if out is None:
-        question.output.writelines(lines(named))
+        sys.stdout.writelines(lines(named))
     elif out.suffix == ".npy":
         write_array(out, rows)
     elif out.suffix == ".gpkg":
@@ -110,6 +101,3 @@ def exact_texts(rows: Overlay) -> list[object]:
     wholes = [twice / 2 / rows.laid.factor**2 for twice in rows.exact.tolist()]
     return [str(one) if one.numerator < most and one.denominator < most else f"more than {DIGITS_OF_EXACT} digits"
             for one in wholes]
-
-
-main = command.run

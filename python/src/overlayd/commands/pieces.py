@@ -3,6 +3,7 @@
 from __future__ import annotations
 
 import pathlib
+import sys
 from collections.abc import Sequence
 from dataclasses import dataclass
 from typing import Any
@@ -21,8 +22,9 @@ from ..kernel.measuring import widths
 from ..kernel.overlaying import Overlay, overlay_within
 from ..kernel.piecing import Alone, alone, colours_of
 from ..kernel.rows import Relation
+from ..words import FILE, argument, flag, option
 from . import map_words
-from .map_words import FILE, Question
+from .map_words import Question
 
 # What of both maps a question has, as geopandas calls it: common pieces, those of A alone, those of B alone.
 HOWS = {"union": (True, True, True), "intersection": (True, False, False), "identity": (True, True, False),
@@ -55,19 +57,14 @@ class Table:
 
 
 @map_words.question(
-    "pieces",
-    click.argument("first", metavar="A"),
-    click.argument("second", metavar="B"),
-    *map_words.words("ab"),
-    click.option("--how", type=click.Choice([*HOWS]), default="union", help="which pieces, as geopandas calls "
-                 "them (default: union)"),
-    click.option("--out", type=FILE, metavar="FILE.csv", help="the table (default: standard output)"),
-    click.option("--pieces", type=FILE, metavar="FILE", help="the pieces as shapes: .geojson, .gpkg or .fgb"),
-    click.option("--no-audit", is_flag=True, help="leave the audit out"))
+    "pieces", argument("first", metavar="A"), argument("second", metavar="B"), *map_words.words("ab"),
+    option("--how", "which pieces, as geopandas calls them (default: union)", click.Choice([*HOWS]), default="union"),
+    option("--out", "the table (default: standard output)", FILE, metavar="FILE.csv"),
+    option("--pieces", "the pieces as shapes: .geojson, .gpkg or .fgb", FILE, metavar="FILE"),
+    flag("--no-audit", "leave the audit out"))
 def command(question: Question) -> None:
     """Write all pieces of two maps, common ones and those of one map alone.
 
-    \b
         overlay pieces parcels.gpkg zones.gpkg --grid 0.001 --out pieces.csv --pieces pieces.gpkg
 
     Coordinates go onto a grid once, as one line says; all after that is exact. A piece has what calls both features, or
@@ -144,8 +141,8 @@ def write(table: Table, out: pathlib.Path | None, shown: pathlib.Path | None, qu
     own = [[] if one is None else one.tolist() for one in names]
     lines = map("{},{},{!r},{!r},{:.4g},{}\n".format, *own, *(columns[head] for head in HEADS[2:]))
     if out is None:
-        question.output.write(",".join(HEADS) + "\n")
-        question.output.writelines(lines)
+        sys.stdout.write(",".join(HEADS) + "\n")
+        sys.stdout.writelines(lines)
         return
     with writing.whole(out) as file:
         file.write(",".join(HEADS) + "\n")
@@ -227,6 +224,3 @@ def wholes(wide: Numbers) -> Numbers:
     """Numbers of 16 bytes as Python's."""
     found: Numbers = wide["high"].astype(object) * 2**64 + wide["low"].astype(object)
     return found
-
-
-main = command.run

@@ -14,7 +14,7 @@ import click
 from ..ending import Unusable
 from ..files.gdal_writing import modules
 from ..kernel import Ask
-from ..program_files import found_program
+from ..program_files import FEATURES, found_program
 from ..register import sources, statements
 from ..register.answers import Program
 from ..register.auditing import audit as audited
@@ -26,12 +26,13 @@ from ..register.refreshing import refresh as refreshed
 from ..register.registers import Register
 from ..register.snapping import snap
 from ..register.watching import Watching
+from ..words import Group, argument, flag, option, program
 
-FEATURES = "overlay_features"
-FILE = click.argument("file", metavar="FILE.gpkg")
-PROGRAM = click.option("--program", metavar="PATH", help="overlay_features, which is asked (default: that of this "
-                                                         "repository or of the path; else it is built)")
-GRID = click.option("--grid", metavar="UNIT", help="the grid, as 0.001 (default: by the layers' own digits)")
+FILE = argument("file", metavar="FILE.gpkg")
+PROGRAM = program(FEATURES)
+GRID = option("--grid", "the grid, as 0.001 (default: by the layers' own digits)", metavar="UNIT")
+IDENT = option("--id idents", "what users call features: it stands in results beside the key", multiple=True,
+               metavar="[LAYER=]COLUMN")
 
 
 def say(text: str) -> None:
@@ -39,7 +40,7 @@ def say(text: str) -> None:
     click.echo(text, err=True)
 
 
-class Reporting(click.Group):
+class Reporting(Group):
     """The subcommands of a register, which end with status 2 where something is refused, and 1 where it cannot be
     done."""
 
@@ -55,8 +56,7 @@ class Reporting(click.Group):
             return 1
 
 
-@click.group("register", cls=Reporting,
-             context_settings={"help_option_names": ["-h", "--help"], "max_content_width": 100})
+@click.group("register", cls=Reporting)
 def command() -> None:
     """Keeps what the features of a GeoPackage overlap, and follows each edit of any program.
 
@@ -74,7 +74,7 @@ def opened(file: str) -> Register:
     return register
 
 
-def program_of(path: str | None, factor: Fraction) -> Program:
+def program_asked(path: str | None, factor: Fraction) -> Program:
     """How the program is asked."""
     return Program(Ask(path or found_program(FEATURES)), factor)
 
@@ -82,7 +82,7 @@ def program_of(path: str | None, factor: Fraction) -> Program:
 def ready(file: str, program: str | None) -> tuple[Register, Program]:
     """A register and its program."""
     register = opened(file)
-    return register, program_of(program, register.state().factor)
+    return register, program_asked(program, register.state().factor)
 
 
 def begun(file: str, names: list[str], grid: str | None, idents: dict[str, str], snaps: bool) -> None:
@@ -123,15 +123,7 @@ def idents_of(words: tuple[str, ...], names: list[str]) -> dict[str, str]:
     return found
 
 
-IDENT = click.option("--id", "idents", metavar="[LAYER=]COLUMN", multiple=True,
-                     help="what users call features: it stands in results beside the key")
-
-
-@command.command()
-@FILE
-@click.argument("files", metavar="SOURCE...", nargs=-1, required=True)
-@GRID
-@IDENT
+@command.command(params=[FILE, argument("files", metavar="SOURCE...", nargs=-1, required=True), GRID, IDENT])
 def init(file: str, files: tuple[str, ...], grid: str | None, idents: tuple[str, ...]) -> None:
     """Makes a GeoPackage of maps in other files, and a register in it."""
     if Path(file).exists():
@@ -142,11 +134,9 @@ def init(file: str, files: tuple[str, ...], grid: str | None, idents: tuple[str,
     begun(file, names, grid, idents_of(idents, names), snaps=True)
 
 
-@command.command()
-@FILE
-@click.argument("source")
-@click.option("--layer", "layers", metavar="NAME", multiple=True, help="of several layers in the source these alone")
-@IDENT
+@command.command(params=[
+    FILE, argument("source"), IDENT,
+    option("--layer layers", "of several layers in the source these alone", metavar="NAME", multiple=True)])
 def add(file: str, source: str, layers: tuple[str, ...], idents: tuple[str, ...]) -> None:
     """Copies layers of another file into a register."""
     opened(file)
@@ -154,21 +144,16 @@ def add(file: str, source: str, layers: tuple[str, ...], idents: tuple[str, ...]
     begun(file, names, None, idents_of(idents, names), snaps=True)
 
 
-@command.command()
-@FILE
-@click.argument("layers", metavar="LAYER...", nargs=-1, required=True)
-@GRID
-@IDENT
-@click.option("--snap", "snaps", is_flag=True, help="bring their shapes onto the grid, all in one pass")
+@command.command(params=[
+    FILE, argument("layers", metavar="LAYER...", nargs=-1, required=True), GRID, IDENT,
+    flag("--snap snaps", "bring their shapes onto the grid, all in one pass")])
 def adopt(file: str, layers: tuple[str, ...], grid: str | None, idents: tuple[str, ...], snaps: bool) -> None:
     """Takes layers that are in the file into its register, which is made where none is there. Their shapes are not
     changed, but by --snap."""
     begun(file, [*layers], grid, idents_of(idents, [*layers]), snaps)
 
 
-@command.command()
-@FILE
-@click.argument("layer")
+@command.command(params=[FILE, argument("layer")])
 def remove(file: str, layer: str) -> None:
     """Takes a layer out of the register, with its triggers and its index; the layer itself stays."""
     opened(file).remove(layer)
@@ -185,51 +170,35 @@ def kept(file: str, program: str | None, one: Kept) -> None:
     click.echo(f"{one.table()}: {begin_to_keep(register, one, own, say)} rows")
 
 
-@keep.command()
-@FILE
-@click.argument("name")
-@click.argument("a", metavar="LAYER")
-@click.argument("b", metavar="OTHER")
-@PROGRAM
+@keep.command(params=[FILE, argument("name"), argument("a", metavar="LAYER"), argument("b", metavar="OTHER"), PROGRAM])
 def pairs(file: str, name: str, a: str, b: str, program: str | None) -> None:
     """Which features of two layers touch or overlap, how, and by how much."""
     kept(file, program, Kept(name, Kind.PAIRS, a, b))
 
 
-@keep.command()
-@FILE
-@click.argument("name")
-@click.argument("layer")
-@PROGRAM
+@keep.command(params=[FILE, argument("name"), argument("layer"), PROGRAM])
 def check(file: str, name: str, layer: str, program: str | None) -> None:
     """Which features of one layer overlap, and by how much."""
     kept(file, program, Kept(name, Kind.CHECK, layer, layer))
 
 
-@keep.command()
-@FILE
-@click.argument("name")
-@click.argument("expression")
-@click.option("--cell", metavar="UNITS", type=int, default=0,
-              help="how many units of the grid a cell is wide (default: about a mean feature)")
-@PROGRAM
+@keep.command(params=[
+    FILE, argument("name"), argument("expression"), PROGRAM,
+    option("--cell", "how many units of the grid a cell is wide (default: about a mean feature)", int, metavar="UNITS",
+           default=0)])
 def derive(file: str, name: str, expression: str, cell: int, program: str | None) -> None:
     """The area of an expression over layers, cell by cell: '(flood | slide) - parks'. A gap is what a district has and
     no parcel: 'district - parcels'."""
     kept(file, program, Kept(name, Kind.DERIVE, expression=expression, cell=cell))
 
 
-@command.command()
-@FILE
-@click.argument("name")
+@command.command(params=[FILE, argument("name")])
 def unkeep(file: str, name: str) -> None:
     """Keeps a table of results no longer."""
     opened(file).unkeep(name)
 
 
-@command.command()
-@FILE
-@PROGRAM
+@command.command(params=[FILE, PROGRAM])
 def refresh(file: str, program: str | None) -> None:
     """Brings all tables of results up to date, once."""
     register, own = ready(file, program)
@@ -237,9 +206,7 @@ def refresh(file: str, program: str | None) -> None:
     click.echo(f"{count} changes, version {register.state().version}")
 
 
-@command.command()
-@FILE
-@PROGRAM
+@command.command(params=[FILE, PROGRAM])
 def watch(file: str, program: str | None) -> None:
     """Keeps all tables of results up to date, until it is stopped (Ctrl+C, or a signal to end)."""
     register, own = ready(file, program)
@@ -250,8 +217,7 @@ def watch(file: str, program: str | None) -> None:
     Watching(functools.partial(GeoPackage, file), own, say).run(lambda: not stopped)
 
 
-@command.command()
-@FILE
+@command.command(params=[FILE])
 def status(file: str) -> None:
     """Says of which state results are, what is pending, and what is wrong with features."""
     register = opened(file)
@@ -270,10 +236,8 @@ def status(file: str) -> None:
         click.echo(f"problem: {count} features: {what}")
 
 
-@command.command()
-@FILE
-@click.option("--part", metavar="N", type=click.IntRange(1), default=1, help="only one of N features")
-@PROGRAM
+@command.command(params=[
+    FILE, PROGRAM, option("--part", "only one of N features", click.IntRange(1), metavar="N", default=1)])
 @click.pass_context
 def audit(context: click.Context, file: str, part: int, program: str | None) -> None:
     """Works all results out anew and compares. Status 1: a table is not what it should be."""
@@ -286,8 +250,7 @@ def audit(context: click.Context, file: str, part: int, program: str | None) -> 
     context.exit(0 if all(one.is_right() for one in found) else 1)
 
 
-@command.command()
-@FILE
+@command.command(params=[FILE])
 def upgrade(file: str) -> None:
     """Brings the tables of an earlier version of this command over."""
     register = Register(GeoPackage(file))

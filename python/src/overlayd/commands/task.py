@@ -2,26 +2,19 @@
 
 from __future__ import annotations
 
-import os
 import pathlib
 
-import click
-
 from ..maps import asking
-from ..program_files import found_program
+from ..words import FILE, argument
 from . import map_words
-from .map_words import FILE, PROGRAM, Question
+from .map_words import PROGRAM, Question, program_of
 
 
-@map_words.question(
-    "task",
-    click.argument("folder", type=FILE, metavar="FOLDER"),
-    click.argument("numbers", type=int, nargs=-1, required=True, metavar="N.."),
-    map_words.program_word)
+@map_words.question("task", argument("folder", FILE, metavar="FOLDER"),
+                    argument("numbers", int, nargs=-1, required=True, metavar="N.."), PROGRAM)
 def command(question: Question) -> None:
     """Do tasks of a --work folder: for xargs, GNU parallel, Slurm.
 
-    \b
         overlay pairs a.gpkg b.gpkg --grid 0.001 --work W --processes 0
         seq 0 89 | xargs -P 8 -n 4 overlay task W/1
         overlay pairs a.gpkg b.gpkg --grid 0.001 --work W
@@ -30,7 +23,4 @@ def command(question: Question) -> None:
     """
     given = question.words
     folder: pathlib.Path = given["folder"]
-    asking.do_tasks(os.path.abspath(given["program"] or found_program(PROGRAM)), folder, given["numbers"])
-
-
-main = command.run
+    asking.do_tasks(program_of(given), folder, given["numbers"])
