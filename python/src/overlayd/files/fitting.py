@@ -1,11 +1,11 @@
 """Proposes a factor and an origin from the box of a map, and says where those that were used do not fit it.
 """
 
-import math
 from collections.abc import Iterable
 from dataclasses import dataclass
 from fractions import Fraction
 
+from .. import grid
 from ..grid import limits
 from ..grid.scale import Scale, decimal_digits, decimals
 from . import map_reading
@@ -47,18 +47,10 @@ def box_of(shapes: Iterable[Shape]) -> Box | None:
     return Box((min(xs), min(ys)), (max(xs), max(ys)), max(known) if len(known) == len(digits) else None)
 
 
-def power_under(number: Fraction) -> Fraction:
-    """The greatest power of ten that is at most a number greater than 0."""
-    power = Fraction(10) ** (math.floor(math.log10(number)) + 1)
-    while power > number:
-        power /= 10
-    return power
-
-
 def largest_factor(half: Fraction) -> Fraction:
     """The greatest of 1, 2 and 5 times a power of ten by which a map of this half extent is in range."""
     most = limits.COORDINATE_MAX / (half * MARGIN)
-    power = power_under(most)
+    power = grid.power_below(most)
     return max(step * power for step in (1, 2, 5) if step * power <= most)
 
 
@@ -71,7 +63,7 @@ def proposed(box: Box) -> tuple[Fraction, tuple[Fraction, Fraction]]:
     factor = largest_factor(half)
     if box.digits is not None and 10**box.digits <= factor:
         factor = Fraction(10) ** box.digits
-    step = max(power_under(half / 100), 1 / factor)
+    step = max(grid.power_below(half / 100), 1 / factor)
     x, y = (round((low + high) / 2 / step) * step for low, high in zip(box.least, box.greatest))
     return factor, (x, y)
 

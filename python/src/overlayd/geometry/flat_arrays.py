@@ -2,12 +2,11 @@
 
 from __future__ import annotations
 
+from typing import Any, TypeAlias
+
 import numpy as np
 
-from .numpy_arrays import Numbers, spans
-
-__all__ = ["Numbers", "after_of", "firsts", "mixed", "offsets", "owners", "spans"]
-
+Numbers: TypeAlias = "np.ndarray[Any, Any]"
 MIXED = np.int64(0x9E3779B97F4A7C1)
 
 
@@ -19,6 +18,13 @@ def offsets(counts: Numbers) -> Numbers:
 def owners(counts: Numbers) -> Numbers:
     """Of each member the number of its part."""
     return np.repeat(np.arange(len(counts)), counts)
+
+
+def spans(begins: Numbers, counts: Numbers) -> Numbers:
+    """The numbers begins[0] up to begins[0] + counts[0], then those of begins[1], and so on."""
+    ends = np.cumsum(counts)
+    numbers: Numbers = np.arange(int(counts.sum()), dtype=np.int64) + np.repeat(begins - (ends - counts), counts)
+    return numbers
 
 
 def after_of(sizes: Numbers) -> Numbers:

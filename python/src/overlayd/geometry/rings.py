@@ -141,16 +141,6 @@ class Rings:
         return list(found.values())
 
 
-def loops_of(pieces: list[Piece], inside_out: bool = False) -> list[list[Corner]]:
-    """The nodes of each ring that pieces bound, with the inside on the left; those on straight lines among them. Inside
-    out it is what lies outside of the pieces that is on the left, and that is parted where it touches itself."""
-    boundary = swept(pieces)
-    if inside_out:
-        boundary.inside_under = [not under for under in boundary.inside_under]
-    begins = boundary.directed()[0]
-    return [[boundary.corners[begins[piece]] for piece in walk] for walk in loops(boundary)]
-
-
 def polygons_of(pieces: list[Piece]) -> list[list[Ring]]:
     """The polygons that the pieces bound: each an outer ring and its holes, in the order of their least corners."""
     try:

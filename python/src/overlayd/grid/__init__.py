@@ -9,13 +9,12 @@ A module for the tools and web/; it uses none of them.
 
 from __future__ import annotations
 
+import math
 from decimal import Decimal
 from fractions import Fraction
-from typing import Any
 
 SURE_DIGITS = 15  # a decimal of no more digits is the shortest one of its double
 DOUBLE_DIGITS = 17  # with so many each double is spelled apart from all others
-SPACINGS = 8  # a product of doubles is off by less than so many spacings of doubles there
 
 
 def spelled(double: float) -> Fraction:
@@ -56,13 +55,9 @@ def nearest(number: Fraction) -> int:
     return (2 * number.numerator + number.denominator) // (2 * number.denominator)
 
 
-def nearest_array(doubles: Any, factor: Fraction) -> Any:
-    """The whole numbers of an array of doubles times a factor, by numpy: those that are near a half
-    by their decimals."""
-    import numpy
-
-    scaled = doubles * float(factor)
-    whole = numpy.floor(scaled + 0.5)
-    unsure = numpy.flatnonzero(0.5 - numpy.abs(scaled - whole) <= SPACINGS * numpy.spacing(numpy.abs(scaled)))
-    whole[unsure] = [nearest(spelled(one) * factor) for one in doubles[unsure].tolist()]
-    return whole.astype(numpy.int64)
+def power_below(most: Fraction) -> Fraction:
+    """The greatest power of ten that is no greater than a number above 0."""
+    digits = math.floor(math.log10(most)) + 1
+    while Fraction(10) ** digits > most:
+        digits -= 1
+    return Fraction(10) ** digits

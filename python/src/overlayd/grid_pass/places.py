@@ -7,7 +7,6 @@ round a whole point, and each corner lies in the pixel of the whole point that i
 
 from __future__ import annotations
 
-import math
 from fractions import Fraction
 
 import numpy as np
@@ -49,16 +48,8 @@ def check_range(doubles: Numbers, factor: Fraction) -> None:
         far = np.flatnonzero(~(np.abs(doubles) * float(factor) <= FARTHEST))
     if len(far):
         worst = float(np.abs(doubles).max())
-        would_do = power_below(FARTHEST / Fraction(worst)) if np.isfinite(worst) else None
+        would_do = grid.power_below(FARTHEST / Fraction(worst)) if np.isfinite(worst) else None
         raise BeyondRange(int(far[0]), float(doubles[far[0]]), factor, would_do)
-
-
-def power_below(most: Fraction) -> Fraction:
-    """The greatest power of ten that is no greater."""
-    digits = math.floor(math.log10(most)) + 1
-    while Fraction(10) ** digits > most:
-        digits -= 1
-    return Fraction(10) ** digits
 
 
 def floors(doubles: Numbers, ratio: Fraction) -> Numbers:

@@ -39,28 +39,15 @@ def runs(asked: list[tuple[Pair, Step]]) -> Iterator[list[tuple[Pair, Step]]]:
     yield from ([one] for one in asked if len(one[1][0]) != 2)
 
 
-def boxes_of(groups: list[Group]) -> list[tuple[int, int, int, int]]:
-    """Least x, least y, greatest x, greatest y of each; 1, 1, 0, 0 of one without a point."""
-    found = []
-    for group in groups:
-        points = [point for polygon in group.polygons for ring in polygon for point in ring]
-        xs, ys = [x for x, _ in points], [y for _, y in points]
-        found.append((min(xs), min(ys), max(xs), max(ys)) if points else (1, 1, 0, 0))
-    return found
-
-
 def overlapping(program: str, groups: list[Group]) -> list[Overlap]:
     """The pairs of features that have an area in common, the largest first. A feature is even-odd over its rings."""
-    import numpy as np  # which few runs need
-
-    from ..kernel import box_pairs
-
-    pairs = box_pairs.pairs_within(np.array(boxes_of(groups), np.int64).reshape(-1, 4)).tolist()
+    pairs = layering.pairs_of_boxes(
+        [point for polygon in group.polygons for ring in polygon for point in ring] for group in groups)
     asked = [((i, j), step_of(groups[i], groups[j])) for i, j in pairs]
     found = []
-    with progress.bar("checking pairs", len(asked)) as told:
+    with progress.bar("checking pairs", len(asked)) as bar:
         for run in runs(asked):
             for (pair, _), area in zip(run, areas(program, [step for _, step in run]), strict=True):
                 found += [Overlap(*pair, area)] if area else []
-            told.update(len(run))
+            bar.update(len(run))
     return sorted(found, key=lambda one: (-one.area, one.first, one.second))

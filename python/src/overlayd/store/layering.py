@@ -4,13 +4,13 @@ A ring is cut into runs, each closed through the ring's first point: the chords 
 runs joined by ^ are the ring, with no new corner and nothing rounded.
 """
 
-from collections.abc import Iterator
+from collections.abc import Iterable, Iterator
 from dataclasses import dataclass, field
 from fractions import Fraction
 from typing import Any
 
 from ..files import rounding
-from ..files.rounding import Polygon, Ring
+from ..files.rounding import Point, Polygon, Ring
 from ..geometry import wkt
 from ..geometry.plane import Box
 from ..grid import limits
@@ -36,12 +36,17 @@ class Group:
 
     def overlaps(self) -> int:
         """How many pairs of polygons have boxes with a common part."""
-        import numpy as np  # which few runs need
+        return len(pairs_of_boxes(polygon[0] for polygon in self.polygons))
 
-        from ..kernel import box_pairs
 
-        boxes: list[Any] = [Box.of_whole(polygon[0]) for polygon in self.polygons]  # of whole numbers
-        return len(box_pairs.pairs_within(np.array(boxes, np.int64).reshape(-1, 4)))
+def pairs_of_boxes(given: Iterable[Iterable[Point]]) -> list[tuple[int, int]]:
+    """Which of some lists of points have boxes with a common part, the first before the second."""
+    import numpy as np  # which few runs need
+
+    from ..kernel import box_pairs
+
+    boxes: list[Any] = [Box.of_whole(points) if points else (1, 1, 0, 0) for points in map(list, given)]
+    return [(i, j) for i, j in box_pairs.pairs_within(np.array(boxes, np.int64).reshape(-1, 4)).tolist()]
 
 
 @dataclass

@@ -73,10 +73,6 @@ def side(a: Point, b: Point, c: Point) -> int:
     return (b[0] - a[0]) * (c[1] - a[1]) - (b[1] - a[1]) * (c[0] - a[0])
 
 
-def within_box(a: Point, b: Point, c: Point) -> bool:
-    return min(a[0], b[0]) <= c[0] <= max(a[0], b[0]) and min(a[1], b[1]) <= c[1] <= max(a[1], b[1])
-
-
 def have_common_point(one: Edge, other: Edge) -> bool:
     """Whether two edges have a common point."""
     (a, b), (c, d) = one[3:], other[3:]
@@ -84,7 +80,7 @@ def have_common_point(one: Edge, other: Edge) -> bool:
     if 0 not in sides:
         return (sides[0] > 0) != (sides[1] > 0) and (sides[2] > 0) != (sides[3] > 0)
     on = ((a, b, c), (a, b, d), (c, d, a), (c, d, b))
-    return any(turned == 0 and within_box(*points) for turned, points in zip(sides, on))
+    return any(turned == 0 and Box.of_whole(ends).has((*point, 1)) for turned, (*ends, point) in zip(sides, on))
 
 
 def runs_back(before: Edge, after: Edge) -> bool:
