@@ -11,7 +11,7 @@ from hypothesis import strategies as drawn
 
 from overlayd.grid_pass.default_grid import Choice, Given, Reason, Unit, choose
 from overlayd.grid_pass.onto_grid import Rings, onto_grid
-from overlayd.grid_pass.telling import told
+from overlayd.grid_pass.telling import grid_line
 
 
 def map_of(coordinates: object, unit: Unit = Unit.LENGTH) -> Given:
@@ -74,4 +74,4 @@ def test_two_maps_have_one_grid_the_finer_of_theirs() -> None:
 def test_what_is_said(coordinates: object, factor: int, choice: Choice | None, line: str) -> None:
     one = map_of(coordinates)
     done = onto_grid([Rings(one.x, one.y, one.sizes)], Fraction(factor))
-    assert told(done, Fraction(factor), "metres", choice) == line
+    assert grid_line(done, Fraction(factor), "metres", choice) == line

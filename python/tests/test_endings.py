@@ -91,4 +91,4 @@ class Reasons(unittest.TestCase):
         for fault, text in ((FileNotFoundError(2, os.strerror(2), "a.txt"), "No such file or directory"),
                             (OSError(28, os.strerror(28)), "No space left on device"), (OSError("odd"), "odd"),
                             (ValueError("x"), "x")):
-            self.assertEqual(ending.told("a.txt", fault), f"a.txt: {text}")
+            self.assertEqual(ending.fault_text("a.txt", fault), f"a.txt: {text}")

@@ -27,7 +27,7 @@ class Unusable(Exception):
     """A script, a reply or an answer that a tool can do nothing with."""
 
 
-def told(of: object, fault: Exception) -> str:
+def fault_text(of: object, fault: Exception) -> str:
     """What a fault says of a file, or of whatever it is of: of the system's the words without number and name."""
     if isinstance(fault, UnicodeDecodeError):
         return f"{of}: no UTF-8, by its byte {fault.object[fault.start]:#x}; {UTF8}"
@@ -79,12 +79,12 @@ def flushed(main: Callable[[list[str]], int]) -> int | str | None:
     return status
 
 
-def tell_fault(fault: OSError) -> None:
+def report(fault: OSError) -> None:
     """Reports, where that can be reported, what could not be written. A reader that went away knows it."""
     if not isinstance(fault, BrokenPipeError):
         of = "standard output" if fault.filename is None else fault.filename
         with contextlib.suppress(OSError):
-            print(f"{pathlib.Path(sys.argv[0]).name}: {told(of, fault)}", file=sys.stderr)
+            print(f"{pathlib.Path(sys.argv[0]).name}: {fault_text(of, fault)}", file=sys.stderr)
 
 
 def drop_rest() -> None:
@@ -105,7 +105,7 @@ def run(main: Callable[[list[str]], int]) -> NoReturn:
         # What was printed before a note could not be reported is output all the same.
         with contextlib.suppress(OSError, AttributeError):
             sys.stdout.flush()
-        tell_fault(fault)
+        report(fault)
         drop_rest()
         status = 1
     sys.exit(status)

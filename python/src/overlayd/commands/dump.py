@@ -59,7 +59,7 @@ def write(layers: list[Layer], store: pathlib.Path, output: pathlib.Path) -> Non
     except (features.FeaturesFault, scales.ScaleFault) as fault:
         raise Unusable(str(fault)) from fault
     except OSError as fault:
-        raise Unusable(ending.told(fault.filename or output, fault)) from fault
+        raise Unusable(ending.fault_text(fault.filename or output, fault)) from fault
 
 
 def is_one_of(path: pathlib.Path, others: list[pathlib.Path]) -> bool:

@@ -137,7 +137,7 @@ def put(text: str, scale: scales.Scale, words: Words) -> None:
     except OSError as fault:
         if words.output is None:
             raise
-        raise Unusable(ending.told(words.output, fault)) from fault
+        raise Unusable(ending.fault_text(words.output, fault)) from fault
 
 
 def is_gdals(path: pathlib.Path) -> bool:

@@ -82,7 +82,7 @@ def read_shapes(words: Words) -> tuple[list[Shape], set[str | None], Described]:
         try:
             own, crs = source.read(content(name, words.source_layer))
         except (OSError, ValueError, ArithmeticError, RecursionError, wkt.WktFault) as fault:
-            raise Stopped(ending.told(f"{name}: not read", fault)) from fault
+            raise Stopped(ending.fault_text(f"{name}: not read", fault)) from fault
         shapes += own
         systems[number] = crs
         properties |= source.properties

@@ -153,7 +153,7 @@ def write_files(words: Words, stores: list[Store], scale: Scale, described: Desc
         check_output(words, scripts, files, scale)
         writing.write_all(texts | files.texts)
     except OSError as fault:
-        raise Stopped(ending.told(fault.filename or words.output, fault)) from fault
+        raise Stopped(ending.fault_text(fault.filename or words.output, fault)) from fault
     return files.notes[:1] + notes + files.notes[1:]
 
 

@@ -1,4 +1,4 @@
-"""The words that questions over maps have in common, and what is done with them: maps are read, faults told."""
+"""The words that questions over maps have in common, and what is done with them: maps are read, faults reported."""
 
 from __future__ import annotations
 
@@ -17,7 +17,7 @@ from ..ending import Unusable
 from ..files import coordinate_systems, gdal_files, map_columns, text_columns, writing
 from ..files.arrow_reading import ReadingFault
 from ..files.map_columns import MapColumn
-from ..files.rounding import told_longer
+from ..files.rounding import longer_text
 from ..grid_pass.default_grid import Unit
 from ..grid_pass.onto_grid import Noding
 from ..kernel import Ask, Grid, MapFault, Wants
@@ -110,7 +110,7 @@ class Question:
         if not len(read_map):
             left_out = f"; left out, {len(read_map.left_out)}: {some(read_map.left_out)}" if read_map.left_out else ""
             raise ReadingFault(f"{path}: no polygon in it{left_out}")
-        self.say(f"{path}: {len(read_map)} features{told_longer(read_map.longer)}")
+        self.say(f"{path}: {len(read_map)} features{longer_text(read_map.longer)}")
         if read_map.left_out:
             self.say(f"left out, {len(read_map.left_out)}: {some(read_map.left_out)}")
         if read_map.system is None and form_of(path):
@@ -160,7 +160,7 @@ class Question:
         return status
 
     def end(self) -> None:
-        """Progress is no more told."""
+        """Progress is no longer shown."""
         if self.shown is not None:
             self.shown.end()
 
@@ -194,7 +194,7 @@ def form_of(path: str) -> str | None:
     try:
         return gdal_files.form_of(pathlib.Path(path), gdal_files.begin_of(pathlib.Path(path)))
     except (OSError, gdal_files.GdalFault) as fault:
-        raise ReadingFault(ending.told(path, fault)) from fault
+        raise ReadingFault(ending.fault_text(path, fault)) from fault
 
 
 def check_systems(maps: Sequence[MapColumn]) -> None:
@@ -213,7 +213,7 @@ def some(names: Sequence[str]) -> str:
     return "; ".join(names[:NAMED_MAX]) + more
 
 
-def told_fault(fault: MapFault, maps: Sequence[MapColumn]) -> str:
+def map_fault_text(fault: MapFault, maps: Sequence[MapColumn]) -> str:
     """A map that is not taken: its file, its feature, and what to do."""
     label = maps[fault.map].labels[fault.feature]
     if fault.what is not What.RANGE:
@@ -233,7 +233,7 @@ def check_outputs(outputs: dict[str, pathlib.Path | None], maps: Sequence[str]) 
             reason = not_writable(path) or next((f"this is {other}; take another name" for other, one in taken.items()
                                                  if is_one(path, one)), None)
         except OSError as fault:
-            raise ReadingFault(ending.told(f"{name} {path}", fault)) from fault
+            raise ReadingFault(ending.fault_text(f"{name} {path}", fault)) from fault
         if reason:
             raise ReadingFault(f"{name} {path}: {reason}")
         taken[f"{name} too"] = path
@@ -280,7 +280,7 @@ def status_of(question: Question, asked: Asked) -> int:
     except (ReadingFault, AskFault) as fault:
         return question.refused(str(fault), 2)
     except MapFault as fault:
-        return question.refused(told_fault(fault, question.maps), 2)
+        return question.refused(map_fault_text(fault, question.maps), 2)
     except BlockRefused as fault:
         no_outlines = "this program makes no outlines; leave out what asks for them"
         return question.refused(no_outlines if fault.fault == NO_OUTLINES else str(fault), 1)
@@ -289,7 +289,7 @@ def status_of(question: Question, asked: Asked) -> int:
     except OSError as fault:
         if isinstance(fault, BrokenPipeError) or fault.filename is None:
             raise
-        return question.refused(ending.told(fault.filename, fault), 1)
+        return question.refused(ending.fault_text(fault.filename, fault), 1)
     finally:
         question.end()
     return question.status

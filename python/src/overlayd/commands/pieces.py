@@ -151,11 +151,11 @@ def write(table: Table, out: pathlib.Path | None, shown: pathlib.Path | None, qu
 
 def tell(question: Question, common: Overlay | None, own: Sequence[Alone | None]) -> None:
     """What the pieces of each kind sum to."""
-    told = []
+    sums = []
     if common is not None:
-        told.append(("common", common.areas(), int((common.relations() >= Relation.OVERLAPS).sum())))
-    told += [(name, side.areas(), len(side)) for name, side in zip(("a alone", "b alone"), own) if side is not None]
-    question.say("; ".join(f"{name} {float(areas.total()):.12g} in {count} pieces" for name, areas, count in told))
+        sums.append(("common", common.areas(), int((common.relations() >= Relation.OVERLAPS).sum())))
+    sums += [(name, side.areas(), len(side)) for name, side in zip(("a alone", "b alone"), own) if side is not None]
+    question.say("; ".join(f"{name} {float(areas.total()):.12g} in {count} pieces" for name, areas, count in sums))
 
 
 def tell_unanswered(question: Question, common: Overlay, own: Sequence[Alone | None], a: MapColumn,

@@ -238,6 +238,6 @@ def command(words: Words) -> int:
         print(fault, file=sys.stderr)
         return fault.status
     except (Unusable, OSError) as fault:
-        print(fault if isinstance(fault, Unusable) else ending.told(fault.filename or "overlay", fault),
+        print(fault if isinstance(fault, Unusable) else ending.fault_text(fault.filename or "overlay", fault),
               file=sys.stderr)
         return 1

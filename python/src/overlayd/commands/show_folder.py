@@ -100,8 +100,8 @@ def put(words: Words, folder: pathlib.Path, own: pathlib.Path, there: list[pathl
         try:
             folder.rename(own)
         except OSError as fault:
-            raise Unmade(1,
-                         f"{ending.told(own, fault)}: another run has made it meanwhile; say the same again") from fault
+            reason = ending.fault_text(own, fault)
+            raise Unmade(1, f"{reason}: another run has made it meanwhile; say the same again") from fault
         return
     made = sorted(folder.iterdir(), key=lambda path: path.suffix == ".db")
     if late := [store for store in stores_of(script_in(own)) if store not in there]:

@@ -124,7 +124,7 @@ def read_table(path: pathlib.Path) -> dict[int, dict[int, str]]:
             for row in csv.DictReader(file):
                 found.setdefault(int(row["store"]), {})[int(row["number"])] = row["name"]
     except OSError as fault:
-        raise Unusable(ending.told(path, fault)) from fault
+        raise Unusable(ending.fault_text(path, fault)) from fault
     except (csv.Error, KeyError, TypeError, ValueError) as fault:
         raise Unusable(f"{path}: no table of features: expected is NAME.names.csv of overlay import --coded, with "
                        "columns store, number and name, the first two of whole numbers") from fault
@@ -210,7 +210,7 @@ def read_points(words: Words) -> list[Point]:
     try:
         text = words.points.read_text(encoding="utf-8-sig") if str(words.points) != "-" else sys.stdin.read()
     except (OSError, ValueError) as fault:
-        raise Unusable(ending.told(words.points, fault)) from fault
+        raise Unusable(ending.fault_text(words.points, fault)) from fault
     lines = [line.strip() for line in text.splitlines()]
     return [point_of(line) for line in lines if line and not line.startswith("#")]
 

@@ -71,7 +71,7 @@ class Layer:
             self.table = self._table(layer)
             self.table.SetAttributeFilter(where)
         except OSError as fault:
-            raise ReadingFault(ending.told(path, fault)) from fault
+            raise ReadingFault(ending.fault_text(path, fault)) from fault
         except RuntimeError as fault:
             raise ReadingFault(f"{path}: {' '.join(str(fault).split())}") from None
         definition = self.table.GetLayerDefn()

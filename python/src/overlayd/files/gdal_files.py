@@ -193,7 +193,7 @@ def check_target(path: pathlib.Path) -> None:
         raise GdalFault(f"{path}: {reason}")
 
 
-def told_apart(found: list[Any]) -> dict[str, str]:
+def renamed_columns(found: list[Any]) -> dict[str, str]:
     """Calls properties of features otherwise whose names differ from others in case alone, which no columns of GDAL do;
     gives what they are called then."""
     names = dict.fromkeys(name for one in found for name in one["properties"])
@@ -239,7 +239,7 @@ def write(path: pathlib.Path, geojson: str, crs: str | None) -> dict[str, str]:
     that are not called as the property is."""
     check_target(path)
     value = json.loads(geojson)
-    renamed = told_apart(value["features"])
+    renamed = renamed_columns(value["features"])
     words = ["-f", WRITTEN[path.suffix.lower()], "-nln", path.stem, *with_ids(path, value["features"])]
     words += [] if crs == scales.CRS84 else ["-a_srs", crs or coordinate_systems.UNKNOWN]
     source = f"{IN_MEMORY}/source.geojson"

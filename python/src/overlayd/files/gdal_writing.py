@@ -187,12 +187,12 @@ def configured(gdal: Any, options: Mapping[str, str]) -> Iterator[None]:
 def told_when_closed(path: str) -> Iterator[None]:
     """Raises what GDAL says while it closes a file: some forms are written only then, and Python gives a fault of what
     it takes away to a hook alone."""
-    told = list[str]()
+    reasons = list[str]()
     had = sys.unraisablehook
 
     def keep(fault: Any) -> None:
         if isinstance(fault.exc_value, RuntimeError):
-            told.append(str(fault.exc_value))
+            reasons.append(str(fault.exc_value))
         else:
             had(fault)
 
@@ -204,8 +204,8 @@ def told_when_closed(path: str) -> Iterator[None]:
         raise
     finally:
         sys.unraisablehook = had
-    if told:
-        raise Unusable(f"{path}: {next(filter(None, told), NO_REASON)}")
+    if reasons:
+        raise Unusable(f"{path}: {next(filter(None, reasons), NO_REASON)}")
 
 
 def write(path: str, pieces: Iterable[Piece], crs: str | None, part_max: int = PART_MAX) -> int:
@@ -218,7 +218,7 @@ def write(path: str, pieces: Iterable[Piece], crs: str | None, part_max: int = P
     except RuntimeError as fault:  # GDAL's
         raise Unusable(f"{path}: {str(fault) or NO_REASON}") from fault
     except OSError as fault:
-        raise Unusable(ending.told(fault.filename or path, fault)) from fault
+        raise Unusable(ending.fault_text(fault.filename or path, fault)) from fault
     finally:
         own.drop()
     return own.count

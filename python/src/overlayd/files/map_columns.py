@@ -38,7 +38,7 @@ def read(path: str, name_by: str | None, layer: str | None = None, where: str | 
         kinds = kinds_of(batch.column)
         polygons = np.flatnonzero((kinds == POLYGON) | (kinds == MULTIPOLYGON))
         labels = labels_of(path, batch, name_by)
-        left_out += [f"{labels[place]}: {told(int(kinds[place]))}" for place in np.flatnonzero(
+        left_out += [f"{labels[place]}: {kind_name(int(kinds[place]))}" for place in np.flatnonzero(
             (kinds != POLYGON) & (kinds != MULTIPOLYGON)).tolist()]
         parts.append((batch.column.part(polygons), batch.names[polygons], labels[polygons]))
     none: Numbers = np.zeros(0, object)
@@ -64,7 +64,7 @@ def kinds_of(column: Column) -> Numbers:
     return found
 
 
-def told(kind: int) -> str:
+def kind_name(kind: int) -> str:
     """Why a feature is left out."""
     from osgeo import ogr
 

@@ -42,10 +42,10 @@ class Tally:
     def text(self) -> str:
         heights = f", further numbers of {self.heights} points dropped" if self.heights else ""
         return (f"{self.rounded} of {self.coordinates} coordinates rounded, largest move "
-                f"{shown(self.furthest)}, {self.merged} equal points merged{heights}{told_longer(self.longer)}")
+                f"{shown(self.furthest)}, {self.merged} equal points merged{heights}{longer_text(self.longer)}")
 
 
-def told_longer(count: int) -> str:
+def longer_text(count: int) -> str:
     """What is said at the end of a line of so many coordinates of which a double does not have all digits."""
     return f", {count} coordinates of more digits than a double has, each taken for the nearest one" if count else ""
 

@@ -124,8 +124,8 @@ def shapes_of(source: Source) -> tuple[list[Shape], str | None, bool]:
         text = map_reading.content(source.name).decode("utf-8-sig")
         return *source.read(text), map_reading.is_geojson(text)
     except (OSError, ValueError, ArithmeticError, RecursionError, TypeError, AttributeError, wkt.WktFault) as fault:
-        told = ending.told(source.name, fault)
-        raise ReadingFault(f"{told}; a map is GeoJSON, or a file that GDAL reads") from fault
+        reason = ending.fault_text(source.name, fault)
+        raise ReadingFault(f"{reason}; a map is GeoJSON, or a file that GDAL reads") from fault
 
 
 def features_of(given: Iterable[Shape]) -> Iterator[list[Shape]]:

@@ -193,7 +193,7 @@ def read(path: pathlib.Path) -> Scale:
     try:
         return of_value(json.loads(path.read_text(encoding="utf-8-sig"), parse_float=Decimal))
     except OSError as fault:
-        raise ScaleFault(ending.told(path, fault)) from fault
+        raise ScaleFault(ending.fault_text(path, fault)) from fault
     except (ValueError, RecursionError, ScaleFault) as fault:
         raise ScaleFault(f"{path}: no scale, as overlay import writes it: {fault}") from fault
 

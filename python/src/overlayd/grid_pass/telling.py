@@ -9,7 +9,7 @@ from .default_grid import Choice
 from .onto_grid import OnGrid
 
 
-def told(done: Sequence[OnGrid], factor: Fraction, unit: str, choice: Choice | None = None) -> str:
+def grid_line(done: Sequence[OnGrid], factor: Fraction, unit: str, choice: Choice | None = None) -> str:
     """What grid, how far the farthest coordinate moves, corners taken in, edges bent, rings collapsed."""
     parts = [moved(done, factor, unit)]
     if taken := sum(one.taken for one in done):

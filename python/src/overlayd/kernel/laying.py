@@ -13,7 +13,7 @@ from ..geometry.flat_arrays import Numbers, owners
 from ..grid_pass.default_grid import Choice, Given, Unit, choose
 from ..grid_pass.onto_grid import Noding, OnGrid, Rings, onto_grid
 from ..grid_pass.places import BeyondRange
-from ..grid_pass.telling import told
+from ..grid_pass.telling import grid_line
 from .columns import Column
 from .features import Features, of_rings
 from .ring_walk import ShapeFault
@@ -103,4 +103,4 @@ def too_far(read: Shapes, fault: BeyondRange) -> MapFault:
 
 def line_of(done: Sequence[OnGrid], factor: Fraction, unit: Unit, choice: Choice | None) -> str:
     """What the grid did."""
-    return told(done, factor, {Unit.UNKNOWN: "unit"}.get(unit, unit.value), choice)
+    return grid_line(done, factor, {Unit.UNKNOWN: "unit"}.get(unit, unit.value), choice)

@@ -120,4 +120,4 @@ def told_faults(folder: pathlib.Path | None) -> Iterator[None]:
         kept = f"; what is done is kept in {folder}: say the same again" if folder else ""
         raise Unusable(f"{fault}{kept}") from fault
     except OSError as fault:
-        raise Unusable(ending.told(fault.filename or folder or tempfile.gettempdir(), fault)) from fault
+        raise Unusable(ending.fault_text(fault.filename or folder or tempfile.gettempdir(), fault)) from fault

@@ -178,7 +178,7 @@ def put(path: pathlib.Path, table: Table) -> None:
     try:
         writing.write_durably(path, table.text())
     except OSError as fault:
-        raise Unwritten(f"the change is not made: {ending.told(path.name, fault)}") from fault
+        raise Unwritten(f"the change is not made: {ending.fault_text(path.name, fault)}") from fault
 
 
 def check_layout(table: Table) -> None:

@@ -44,7 +44,7 @@ def opened(program: str, store: pathlib.Path | None = None) -> Iterator[Session]
     except Ended as fault:
         raise Unusable(f"{program}: {fault}") from fault
     except OSError as fault:
-        raise Unusable(ending.told(program, fault)) from fault
+        raise Unusable(ending.fault_text(program, fault)) from fault
     try:
         yield server.sessions[0]
     except (Refused, Ended) as fault:

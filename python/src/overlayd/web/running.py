@@ -145,7 +145,7 @@ def run(words: Words, hosts: set[str]) -> int:
         print(f"{words.store or 'the front'}: {fault}", file=sys.stderr)
         return 1
     except OSError as fault:  # of the program, or of a file that it names
-        print(endings.told(fault.filename or words.store or "the front", fault), file=sys.stderr)
+        print(endings.fault_text(fault.filename or words.store or "the front", fault), file=sys.stderr)
         return 1
     if status and not reason:
         reason = f"overlay_live has ended with status {status}"
