@@ -22,7 +22,7 @@ from overlayd.kernel.colouring import TooManyColours, colours
 from overlayd.kernel.columns import Column, columns_joined, of_bytes
 from overlayd.kernel.deriving import UnknownMap
 from overlayd.kernel.laying import What, lay
-from overlayd.kernel.layered import name_of
+from overlayd.kernel.spelling import name_of
 from overlayd.kernel.polygons import polygons_of
 from overlayd.kernel.rows import CELLS, RINGS, WIDE, BlockRefused, Kind, Relation, Rows
 from overlayd.kernel.shapes import column_of

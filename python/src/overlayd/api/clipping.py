@@ -9,6 +9,7 @@ from shapely.geometry import MultiPolygon, Polygon, box
 
 from ..kernel import Wants
 from ..kernel import overlay as pairs_of_maps
+from ..kernel.cell_jobs import within
 from ..kernel.rows import Relation
 from . import cells
 from .asking import GridSize, asked, refusals_told
@@ -39,8 +40,8 @@ def clip(gdf: Frame, mask: Any, keep_geom_type: bool = True, *, grid_size: GridS
         laid = rows.laid
         lie = rows.pairs[rows.relations() >= Relation.OVERLAPS]
         own, others = laid.maps
-        layer = cells.coloured(others, cells.overlapping(laid, 1, ask.stage(0.4, 0.6)))
-        found = cells.with_others(own, others, lie, layer, cells.within, laid, ask.stage(0.6, 1, ask.wants))
+        layers = cells.layers_of(laid, 1, ask.stage(0.4, 0.6))
+        found = cells.with_others(own, others, lie, layers, within, laid, ask.stage(0.6, 1, ask.wants))
     assert found.outlines is not None
     result = gdf.iloc[found.jobs].copy()
     shapes = shapes_of(found.outlines, gdf.crs, result.index)

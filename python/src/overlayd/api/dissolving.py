@@ -29,9 +29,8 @@ def dissolve(df: Frame, by: Any = None, aggfunc: Any = "first", as_index: bool =
     ask = asked(program, grid_size, unit_of(df), Wants.OUTLINES)
     with faults_told(df=df), refusals_told("dissolve"):
         laid = lay([column_of(df)], ask.grid)
-        own = cells.same_group(cells.overlapping(laid, 0, ask.stage(0, 0.5)), groups)
-        layer = cells.coloured(laid.maps[0], own)
-        found = cells.united(laid.maps[0], groups, layer, laid, ask.stage(0.5, 1, ask.wants))
+        layers = cells.layers_of(laid, 0, ask.stage(0, 0.5), groups)
+        found = cells.united(laid.maps[0], groups, layers, laid, ask.stage(0.5, 1, ask.wants))
     assert found.outlines is not None
     shapes = np.full(data.ngroups, None, object)
     shapes[found.jobs] = shapes_of(found.outlines, df.crs).to_numpy()

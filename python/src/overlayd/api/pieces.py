@@ -10,6 +10,7 @@ import numpy as np
 
 from ..geometry.flat_arrays import Numbers
 from ..kernel import Ask, Wants, check, overlay
+from ..kernel.cell_jobs import minus
 from ..kernel.columns import Column
 from ..kernel.overlaying import Overlay, overlay_within
 from ..kernel.polygons import Polygons
@@ -83,8 +84,8 @@ def alone(rows: Overlay, side: int, pairs: Numbers, ask: Ask) -> cells.Cells:
     """What each feature of one map has alone."""
     laid = rows.laid
     own, others = laid.maps[side], laid.maps[1 - side]
-    layer = cells.coloured(others, cells.overlapping(laid, 1 - side, ask.stage(0, 0.5)))
-    return cells.with_others(own, others, pairs, layer, cells.minus, laid, ask.stage(0.5, 1, ask.wants))
+    layers = cells.layers_of(laid, 1 - side, ask.stage(0, 0.5))
+    return cells.with_others(own, others, pairs, layers, minus, laid, ask.stage(0.5, 1, ask.wants))
 
 
 def answered(rows: Overlay, *names: Sequence[object]) -> Overlay:

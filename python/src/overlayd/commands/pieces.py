@@ -19,8 +19,9 @@ from ..kernel import Ask, Wants, overlay
 from ..kernel.asking import Areas
 from ..kernel.columns import Column, columns_joined
 from ..kernel.measuring import widths
+from ..kernel.membership import Members
 from ..kernel.overlaying import Overlay, overlay_within
-from ..kernel.piecing import Alone, alone, colours_of
+from ..kernel.piecing import Alone, alone, layers_of_map
 from ..kernel.rows import Relation
 from ..words import FILE, argument, flag, option
 from . import map_words
@@ -85,10 +86,10 @@ def command(question: Question) -> None:
     ask = question.ask(Wants.OUTLINES)
     common = overlay(a.column, b.column, ask.stage(0, 0.4, Wants.OUTLINES))
     question.tell_grid(common.laid)
-    colours = [colours_of(common.laid, number, ask.stage(0.4 + number / 10, 0.5 + number / 10)) for number in (0, 1)]
+    layers = [layers_of_map(common.laid, number, ask.stage(0.4 + number / 10, 0.5 + number / 10)) for number in (0, 1)]
     with_common, *sides = HOWS[given["how"]]
     stages = [ask.stage(0.6 + number / 10, 0.7 + number / 10, Wants.OUTLINES) for number in (0, 1)]
-    own = [alone(common.laid, number, colours[1 - number], stages[number]) if sides[number] else None
+    own = [alone(common.laid, number, layers[1 - number], stages[number]) if sides[number] else None
            for number in (0, 1)]
     table = joined(common if with_common else None, own, a, b).largest_first()
     write(table, out, shown, question)
@@ -98,7 +99,7 @@ def command(question: Question) -> None:
         for number, read in ((0, a), (1, b)):
             part = own[number]
             if part is not None and not faults and with_common:
-                audit(question, number, read, Side(common, part, colours[1 - number], ask.stage(0.8 + number / 10, 1)))
+                audit(question, number, read, Side(common, part, layers[1 - number], ask.stage(0.8 + number / 10, 1)))
 
 
 def joined(common: Overlay | None, own: Sequence[Alone | None], a: MapColumn, b: MapColumn) -> Table:
@@ -174,12 +175,12 @@ def tell_unanswered(question: Question, common: Overlay, own: Sequence[Alone | N
 
 @dataclass(frozen=True)
 class Side:
-    """Of what the audit of a map is made: common pieces, what it has alone, the colours of the other map, and how is
+    """Of what the audit of a map is made: common pieces, what it has alone, the layers of the other map, and how is
     asked."""
 
     common: Overlay
     alone: Alone
-    colours: Numbers
+    layers: Members
     ask: Ask
 
 
@@ -211,7 +212,7 @@ def audit(question: Question, number: int, read: MapColumn, side: Side) -> None:
 def shares_close(side: Side, number: int, apart: Numbers, found: tuple[Numbers, Numbers]) -> Numbers:
     """Of features whose pieces are more than they are, as others lie on each other within them: whether what they share
     with the other map as a whole, and what they have alone, are they."""
-    shared = alone(side.common.laid, number, side.colours, side.ask.stage(0.3, 1), is_shared=True)
+    shared = alone(side.common.laid, number, side.layers, side.ask.stage(0.3, 1), is_shared=True)
     sums, off = found[0].copy(), found[1].copy()
     np.add.at(sums, side.common.pairs[:, number], -wholes(side.common.rows["both"]))
     np.add.at(sums, shared.features, wholes(shared.rows["both"]))

@@ -12,6 +12,7 @@ from .colouring import TooManyColours
 from .columns import Column
 from .laying import lay
 from .layered import Core, Found, Layers, evaluated, frame_of, layer_areas, layers_of
+from .membership import overlapping
 from .overlaying import Overlay, overlay_within, pairs_in
 from .polygons import Polygons, polygons_of
 from .rows import Relation
@@ -28,9 +29,9 @@ class TooDeep(TooManyColours):
 
 @dataclass(frozen=True)
 class Audit:
-    """In parts of 2^-40 of twice a unit square. Of each colour: the area of the layer, less those of its features; then
-    what is covered and what is open, less the frame; then what three features or more have in common, by what is
-    covered; and how much each of these may be off by the program's bounds."""
+    """In parts of 2^-40 of twice a unit square. Of each layer: the area of its features that are in no other layer, less
+    those of each; then what is covered and what is open, less the frame; then what three features or more have in
+    common, by what is covered; and how much each of these may be off by the program's bounds."""
 
     colours: list[int]
     frame: int
@@ -70,7 +71,7 @@ def check(column: Column, ask: Ask, wants: Wants = Wants.NOTHING) -> Check:
     overlaps = rows.part(np.flatnonzero(rows.relations() >= Relation.OVERLAPS))
     unanswered = rows.part(rows.faults())
     try:
-        (layers,) = layers_of([features], [np.concatenate([overlaps.pairs, unanswered.pairs])])
+        (layers,) = layers_of([features], [overlapping(rows)], ask.stage(0.5, 0.5))
     except TooManyColours as fault:
         raise TooDeep(fault, overlaps, unanswered) from fault
     frame = frame_of([features])
@@ -87,7 +88,7 @@ def audited(own: Overlay, overlaps: Overlay, layers: Layers, found: tuple[Found,
     """What closes, and what does not."""
     covered, left = (one.area() for one in found)
     areas = layer_areas(layers, frame, own.laid, ask)
-    colour, off, apart = layers.layer[own.pairs[:, 0]], 0, []
+    colour, off, apart = layers.single()[own.pairs[:, 0]], 0, []
     for number in range(layers.count()):
         mine = own.areas("a").part(np.flatnonzero(colour == number))
         apart.append(areas.whole(number) - mine.sum())

@@ -7,6 +7,7 @@ import numpy as np
 from ..geometry.flat_arrays import Numbers
 
 FREE = -1
+NONE = -2
 
 
 class TooManyColours(Exception):
@@ -18,7 +19,16 @@ class TooManyColours(Exception):
 
 
 def colours(count: int, pairs: Numbers, most: int) -> Numbers:
-    """A colour from 0 for each feature, the ends of each pair differing: the least that is free where it is its turn.
+    """A colour from 0 for each feature, the ends of each pair differing."""
+    found = some_colours(count, pairs, most)
+    if (found == FREE).any():
+        raise TooManyColours(int(np.argmin(found)), most)
+    return found
+
+
+def some_colours(count: int, pairs: Numbers, most: int) -> Numbers:
+    """A colour from 0 for each feature, the ends of each pair differing: the least that is free where it is its turn;
+    FREE where so many are all taken by then.
 
     In rounds: those take their colours that come before all neighbours without one, by how many neighbours they have,
     the most first, then by a mixed number."""
@@ -31,13 +41,13 @@ def colours(count: int, pairs: Numbers, most: int) -> Numbers:
         waits[np.where(rank[i] > rank[j], i, j)] = True
         now = left[~waits[left]]
         found[now] = least_free(taken[now])
-        if found[now].max() >= most:
-            raise TooManyColours(int(now[np.argmax(found[now])]), most)
+        found[now[found[now] >= most]] = NONE
         for own, other in ((i, j), (j, i)):
-            done = found[own] != FREE
+            done = found[own] >= 0
             np.bitwise_or.at(taken, other[done], np.int64(1) << found[own[done]])
         both = (found[i] == FREE) & (found[j] == FREE)
         i, j = i[both], j[both]
+    found[found == NONE] = FREE
     return found
 
 

@@ -6,15 +6,14 @@ import re
 from collections.abc import Mapping
 from dataclasses import dataclass
 
-from ..geometry.flat_arrays import Numbers
 from .asking import Areas, Ask
 from .blocks import Wants
 from .columns import Column
 from .laying import Laid, lay
 from .layered import evaluated, frame_of, layers_of
-from .overlaying import overlay_within, pairs_in
+from .membership import overlapping
+from .overlaying import Overlay, overlay_within, pairs_in
 from .polygons import Polygons, polygons_of
-from .rows import Relation
 
 NAME = re.compile(r"[A-Za-z][A-Za-z0-9_]*")
 
@@ -45,7 +44,8 @@ def derive(maps: Mapping[str, Column], expression: str, ask: Ask) -> Derived:
     laid = lay([maps[name] for name in names], ask.grid)
     ask.look()
     stages = [ask.stage(number / len(names) / 2, (number + 1) / len(names) / 2) for number in range(len(names))]
-    own = layers_of(laid.maps, [overlaps_of(laid, number, stage) for number, stage in enumerate(stages)])
+    own = layers_of(laid.maps, [overlaps_of(laid, number, stage) for number, stage in enumerate(stages)],
+                    ask.stage(0.5, 0.5))
     unions = {name: "(" + (" | ".join(one.names()) or "Core - Core") + ")" for name, one in zip(names, own)}
     spelled = NAME.sub(lambda found: unions[found[0]], expression)
     asked = ask.stage(0.5, 1, ask.wants & Wants.OUTLINES)
@@ -53,9 +53,7 @@ def derive(maps: Mapping[str, Column], expression: str, ask: Ask) -> Derived:
     return Derived(found.area(), polygons_of(found.rows, laid.factor) if asked.wants else None, laid)
 
 
-def overlaps_of(laid: Laid, number: int, ask: Ask) -> Numbers:
+def overlaps_of(laid: Laid, number: int, ask: Ask) -> Overlay:
     """Which features of a map overlap, or may, as the program has no answer."""
     one = laid.alone(number)
-    rows = overlay_within(one, pairs_in(one.maps[0]), ask)
-    found: Numbers = rows.pairs[(rows.relations() >= Relation.OVERLAPS) | (rows.rows["fault"] > 0)]
-    return found
+    return overlapping(overlay_within(one, pairs_in(one.maps[0]), ask))

@@ -1,27 +1,28 @@
-"""Expressions over maps whose features may overlap: each map is some layers, in each of which no two features overlap.
+"""Expressions over maps whose features may overlap: each map is some layers, which together are its union.
 
 A layer is even-odd over its features. So it is their union where no two of them overlap, which its audit shows: its
-area is then the sum of theirs.
+area is then the sum of theirs. Features in several layers are looked at by membership.py.
 """
 
 from __future__ import annotations
 
-import string
 from collections.abc import Sequence
 from dataclasses import dataclass
 
 import numpy as np
 
-from ..geometry.flat_arrays import Numbers
+from ..geometry.flat_arrays import Numbers, offsets
 from .asking import Areas, Ask
 from .blocks import Asked, Kind, Wants, block, cells_job
-from .colouring import colours
+from .cell_jobs import FARTHEST
+from .colouring import FREE, TooManyColours, some_colours
 from .features import Features, joined
 from .laying import Laid
+from .membership import Members, in_several, plain
+from .overlaying import Overlay
 from .rows import CELLS, Rows
+from .spelling import LAYERS, name_of
 
-LAYERS = 29  # that an expression may name
-FARTHEST = 2**41
 Core = tuple[int, int, int, int]
 
 
@@ -35,17 +36,21 @@ class NoAnswer(Exception):
 
 @dataclass(frozen=True)
 class Layers:
-    """Features, and the layer of each, from 0."""
+    """Features, and in which layers they are."""
 
     features: Features
-    layer: Numbers
+    members: Members
 
     def count(self) -> int:
-        return int(self.layer.max(initial=-1)) + 1
+        return self.members.count()
+
+    def single(self) -> Numbers:
+        """Of each feature its one layer; -1 where it is in none or in several."""
+        return self.members.single(len(self.features))
 
     def names(self) -> list[str]:
         """The names of the layers in an expression."""
-        return [name_of(number) for number in np.unique(self.layer).tolist()]
+        return [name_of(number) for number in np.unique(self.members.layer).tolist()]
 
 
 @dataclass(frozen=True)
@@ -59,19 +64,30 @@ class Found:
         return Areas(self.rows.rows["both"], self.rows.rows["bound"], self.laid.factor)
 
 
-def name_of(number: int) -> str:
-    """What a layer is called in an expression."""
-    letters = string.ascii_lowercase
-    return f"L{letters[number // len(letters)]}{letters[number % len(letters)]}"
-
-
-def layers_of(maps: Sequence[Features], overlaps: Sequence[Numbers]) -> list[Layers]:
+def layers_of(maps: Sequence[Features], apart: Sequence[Overlay], ask: Ask) -> list[Layers]:
     """The layers of maps of which these pairs overlap, numbered one map after the other."""
+    own = [some_colours(len(features), rows.pairs, LAYERS) for features, rows in zip(maps, apart)]
     found, begun = [], 0
-    for features, pairs in zip(maps, overlaps):
-        own = colours(len(features), pairs, LAYERS - begun)
-        found.append(Layers(features, own + begun))
+    for features, rows, layer, share in zip(maps, apart, own, shares([wanted(one) for one in own])):
+        members = plain(layer) if wanted(layer) <= share else in_several(features, rows, ask, min(share, LAYERS - 1))
+        found.append(Layers(features, members.after(begun)))
         begun = max(begun, found[-1].count())
+    return found
+
+
+def wanted(layer: Numbers) -> int:
+    """How many layers a map wants; one more than there are where these do not do."""
+    return LAYERS + 1 if (layer == FREE).any() else int(layer.max(initial=-1)) + 1
+
+
+def shares(counts: Sequence[int]) -> list[int]:
+    """How many layers each map has of all, of those that it wants: those that want least have all of theirs."""
+    found, left = [0] * len(counts), LAYERS
+    for done, place in enumerate(sorted(range(len(counts)), key=counts.__getitem__)):
+        found[place] = min(counts[place], left // (len(counts) - done))
+        if found[place] < min(counts[place], 2):
+            raise TooManyColours(0, LAYERS)
+        left -= found[place]
     return found
 
 
@@ -89,8 +105,9 @@ def frame_of(maps: Sequence[Features]) -> Core:
 def evaluated(layers: Sequence[Layers], expression: str, core: Core, laid: Laid, ask: Ask) -> Found:
     """An expression over layers within a core."""
     features = joined([one.features for one in layers])
-    layer = np.concatenate([one.layer for one in layers])
-    job = cells_job(core, np.arange(len(features)), layer)
+    begins = offsets(np.array([len(one.features) for one in layers]))
+    member = np.concatenate([one.members.feature + begin for one, begin in zip(layers, begins)])
+    job = cells_job(core, member, np.concatenate([one.members.layer for one in layers]))
     asked = Asked(Kind.CELLS, job, 1, expression.encode(), max([1, *(one.count() for one in layers)]))
     (rows,) = ask.rows([block(features, asked, ask.wants)], 1)
     need_answers(rows)
@@ -104,9 +121,10 @@ def need_answers(rows: Rows) -> None:
 
 
 def layer_areas(layers: Layers, core: Core, laid: Laid, ask: Ask) -> Areas:
-    """The area of each layer, each by a block of its own features."""
-    numbers = range(int(layers.layer.min(initial=0)), layers.count())
-    blocks = (alone(layers, number, core) for number in numbers)
+    """The area of each layer without the features that are in several, each by a block of its own features."""
+    layer = layers.single()
+    numbers = range(int(layers.members.layer.min(initial=0)), layers.count())
+    blocks = (alone(layers.features.part(np.flatnonzero(layer == number)), core) for number in numbers)
     rows = [np.zeros(0, CELLS)]
     for found in ask.rows(blocks, len(numbers)):
         need_answers(found)
@@ -115,8 +133,7 @@ def layer_areas(layers: Layers, core: Core, laid: Laid, ask: Ask) -> Areas:
     return Areas(whole["both"], whole["bound"], laid.factor)
 
 
-def alone(layers: Layers, number: int, core: Core) -> bytes:
-    """A block that asks what one layer is."""
-    features = layers.features.part(np.flatnonzero(layers.layer == number))
+def alone(features: Features, core: Core) -> bytes:
+    """A block that asks what features are as one layer."""
     job = cells_job(core, np.arange(len(features)), np.zeros(len(features), np.int64))
     return block(features, Asked(Kind.CELLS, job, 1, name_of(0).encode(), 1), Wants.NOTHING)

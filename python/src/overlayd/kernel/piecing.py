@@ -11,13 +11,13 @@ from ..geometry.flat_arrays import Numbers, offsets, spans
 from .asking import Areas, Ask
 from .blocks import Asked, Kind, Wants, block
 from .box_pairs import pairs
-from .colouring import colours
 from .columns import Column, columns_joined
 from .features import Features, joined
 from .laying import Laid
-from .layered import LAYERS, name_of
+from .membership import Members, members_of, overlapping
 from .overlaying import overlay_within, pairs_in
-from .rows import CELLS, Relation
+from .rows import CELLS
+from .spelling import name_of
 
 HEAD = 9  # numbers of four bytes of a job before its members: its core, and how many these are
 
@@ -45,25 +45,24 @@ class Alone:
         return Alone(self.features[places], self.rows[places], own, self.laid)
 
 
-def colours_of(laid: Laid, number: int, ask: Ask) -> Numbers:
-    """A colour for each feature of a map, such that those that overlap, or may, differ."""
+def layers_of_map(laid: Laid, number: int, ask: Ask) -> Members:
+    """In which layers the features of a map are, with one layer left."""
     own = laid.alone(number)
-    rows = overlay_within(own, pairs_in(own.maps[0]), ask)
-    apart = rows.pairs[(rows.relations() >= Relation.OVERLAPS) | (rows.rows["fault"] > 0)]
-    return colours(len(own.maps[0]), apart, LAYERS - 1)
+    return members_of(own.maps[0], overlapping(overlay_within(own, pairs_in(own.maps[0]), ask)), ask)
 
 
-def alone(laid: Laid, number: int, other_colours: Numbers, ask: Ask, is_shared: bool = False) -> Alone:
-    """What features of a map have alone, beside the other of two maps, whose features have colours; or where is_shared
+def alone(laid: Laid, number: int, other: Members, ask: Ask, is_shared: bool = False) -> Alone:
+    """What features of a map have alone, beside the other of two maps, whose features are in layers; or where is_shared
     what they share with that one."""
     mine, others = laid.maps[number], laid.maps[1 - number]
     boxes = mine.boxes()
     live = np.flatnonzero((boxes[:, 0] < boxes[:, 2]) & (boxes[:, 1] < boxes[:, 3]))
     near = pairs(boxes, others.boxes())
-    count = max(1, int(other_colours.max(initial=-1)) + 1)
+    count = max(1, other.count())
     rest = " | ".join(name_of(1 + one) for one in range(count))
     expression = f"{name_of(0)} {'&' if is_shared else '-'} ({rest})"
-    asked = Jobs(mine, others, other_colours, near, expression, 1 + count)
+    place, layer = other.spread(near[:, 1])
+    asked = Jobs(mine, others, near[place], layer, expression, 1 + count)
     rows, outlines = [np.zeros(0, CELLS)], []
     for found in ask.rows(asked.blocks(live, ask), -(-len(live) // ask.size)):
         rows.append(found.rows)
@@ -76,13 +75,13 @@ def alone(laid: Laid, number: int, other_colours: Numbers, ask: Ask, is_shared: 
 
 @dataclass(frozen=True)
 class Jobs:
-    """Of what jobs are made: features, those of the other map, the colours and the pairs of boxes of these, what is
-    asked, and how many layers it names."""
+    """Of what jobs are made: features, those of the other map, the pairs of boxes with each layer of the second, what
+    is asked, and how many layers it names."""
 
     mine: Features
     others: Features
-    colours: Numbers
     near: Numbers
+    layer: Numbers
     expression: str
     layers: int
 
@@ -92,10 +91,11 @@ class Jobs:
             yield self.block(live[at : at + ask.size], ask.wants)
 
     def block(self, some: Numbers, wants: Wants) -> bytes:
-        """A block with a job for each: its own feature in the first layer, those near it by their colours."""
+        """A block with a job for each: its own feature in the first layer, those near it in theirs."""
         begin, end = np.searchsorted(self.near[:, 0], some), np.searchsorted(self.near[:, 0], some, "right")
         counts = end - begin
-        flat = self.near[spans(begin, counts), 1]
+        own = spans(begin, counts)
+        flat = self.near[own, 1]
         used, place = np.unique(flat, return_inverse=True)
         at = offsets(HEAD + 2 * (1 + counts))
         jobs: Numbers = np.zeros(int(at[-1]), "<u4")
@@ -105,6 +105,6 @@ class Jobs:
         jobs[at[:-1] + HEAD] = np.arange(len(some))
         members = spans(at[:-1] + HEAD + 2, 2 * counts)
         jobs[members[0::2]] = len(some) + place
-        jobs[members[1::2]] = 1 + self.colours[flat]
+        jobs[members[1::2]] = 1 + self.layer[own]
         asked = Asked(Kind.CELLS, jobs, len(some), self.expression.encode(), self.layers)
         return block(joined([self.mine.part(some), self.others.part(used)]), asked, wants)

@@ -15,11 +15,11 @@ from ..kernel.blocks import Asked, Kind, block, cells_job, pair_blocks
 from ..kernel.box_pairs import pairs, pairs_within
 from ..kernel.colouring import TooManyColours, colours
 from ..kernel.features import Features, joined, of_rings
-from ..kernel.layered import LAYERS, name_of
 from ..kernel.laying import Laid
 from ..kernel.overlaying import Overlay, answered
 from ..kernel.rows import PAIR, BlockRefused, Relation, Rows
 from ..kernel.running import ProgramEnded
+from ..kernel.spelling import LAYERS, name_of
 from .model import Refused, spelled
 from .taking import Problem, Taken
 
