@@ -143,6 +143,7 @@ def test_the_grid_is_told() -> None:
     told = overlayd.overlay(df1, made.tiles(1)).attrs["overlayd"]
     assert told["grid"] == "0.001" and "rounded to 0.001 metre" in told["told"]
     assert told["collapsed"] == {"df1": ["thin"], "df2": []}
+    assert 0 < told["moved"] <= 0.0005 and told["bends"] == told["bent"] == 0
     own = overlayd.overlay(made.tiles(2), made.tiles(1), grid_size=0.1).attrs["overlayd"]
     assert own["grid"] == "0.1" and "nothing is rounded" in own["told"]
 

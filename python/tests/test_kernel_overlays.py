@@ -2,6 +2,7 @@
 
 from __future__ import annotations
 
+import dataclasses
 import itertools
 import json
 import math
@@ -20,7 +21,7 @@ from overlayd.kernel import Ask, Cancelled, Grid, MapFault, Wants, check, derive
 from overlayd.kernel.asking import sum_of
 from overlayd.kernel.colouring import TooManyColours, colours
 from overlayd.kernel.columns import Column, columns_joined, of_bytes
-from overlayd.kernel.deriving import UnknownMap
+from overlayd.kernel.deriving import NoMap, UnknownMap
 from overlayd.kernel.laying import What, lay
 from overlayd.kernel.spelling import name_of
 from overlayd.kernel.polygons import polygons_of
@@ -202,6 +203,26 @@ def test_faults_say_the_map_the_feature_and_what_would_do() -> None:
         lay([of_bytes([good.shape(0), bytes(line)])])
     with pytest.raises(MapFault, match="map 0, feature 0: its bytes end too early"):
         lay([of_bytes([good.shape(0)[:-3]])])
+
+
+def test_what_the_grid_does_is_told_as_numbers() -> None:
+    big = [(0, 0), (10, 0), (10, 10), (0, 10)]
+    nothing = lay([column([[big]]), column([[big]])], GRID)
+    assert dataclasses.astuple(nothing.moves) == (0.0, 0, 0, 0)
+    # Ten quarters are moved by a half of a unit, as far as parts of 2^-16 say; two corners lie on the long edge there.
+    rounded = lay([column([[big]], 4), column([[[(4, 0), (6, 0), (6, -6), (4, -6)]]], 4)], GRID)
+    assert abs(rounded.moves.moved - 0.5) <= 2**-15 and rounded.moves.taken == 2
+    assert rounded.alone(0).moves == rounded.moves
+    fine = lay([column([[big]], 4)], Grid(Fraction(1, 10)))
+    assert abs(fine.moves.moved - 2.5) <= 10 * 2**-15
+    long = lay([column([[[(0, 0), (2**20, 1), (0, 3)]]])], GRID).moves
+    assert (long.moved, long.taken, long.bent) == (0.0, 0, 2) and long.bends >= 2
+
+
+def test_an_expression_without_a_map_is_refused() -> None:
+    for maps, named in (({}, "none is given"), ({"built": column([[SQUARE]])}, "built")):
+        with pytest.raises(NoMap, match=f"the expression names no map; say one of: {named}"):
+            derive(maps, "", Ask("no program"))
 
 
 def test_features_that_collapse_are_named() -> None:

@@ -3,6 +3,7 @@
 from __future__ import annotations
 
 import contextlib
+import dataclasses
 import warnings
 from collections.abc import Iterator, Sequence
 from typing import Any
@@ -76,9 +77,10 @@ def unit_of(*frames: Frame) -> Unit:
 
 
 def told(laid: Laid, names: Sequence[str], frames: Sequence[Frame]) -> dict[str, Any]:
-    """What the grid did: its unit as text, a line of it, and the labels of features of which nothing is left."""
+    """What the grid did: its unit as text, a line of it, the same as numbers (moved, taken, bent, bends), and the
+    labels of features of which nothing is left."""
     gone = {name: frame.index[places].tolist() for name, frame, places in zip(names, frames, laid.collapsed)}
-    return {"grid": spelled(1 / laid.factor), "told": laid.line, "collapsed": gone}
+    return {"grid": spelled(1 / laid.factor), "told": laid.line, **dataclasses.asdict(laid.moves), "collapsed": gone}
 
 
 def with_told(result: Frame, laid: Laid, **frames: Frame) -> Frame:

@@ -9,7 +9,7 @@ import click
 from ..files import shape_files
 from ..files.arrow_reading import ReadingFault
 from ..kernel import Wants, derive
-from ..kernel.deriving import NAME, UnknownMap
+from ..kernel.deriving import NAME, NoMap, UnknownMap
 from ..words import FILE, argument, option
 from . import map_words
 from .map_words import Question
@@ -38,6 +38,8 @@ def command(question: Question) -> None:
     used = sorted(set(NAME.findall(given["expression"])))
     if unknown := [name for name in used if name not in named]:
         raise ReadingFault(f"no map {unknown[0]}; say one of: {', '.join(sorted(named))}")
+    if not used:
+        raise ReadingFault(str(NoMap(sorted(named))))
     maps = question.read([named[name] for name in used], "a" * len(used))
     ask = question.ask(Wants.NOTHING if out is None else Wants.OUTLINES)
     try:

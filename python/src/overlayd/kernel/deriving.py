@@ -26,6 +26,13 @@ class UnknownMap(Exception):
         self.name = name
 
 
+class NoMap(Exception):
+    """An expression that names no map."""
+
+    def __init__(self, known: list[str]) -> None:
+        super().__init__(f"the expression names no map; say one of: {', '.join(known) or 'none is given'}")
+
+
 @dataclass(frozen=True)
 class Derived:
     """The area of an expression, and its polygons where outlines were asked for."""
@@ -41,6 +48,8 @@ def derive(maps: Mapping[str, Column], expression: str, ask: Ask) -> Derived:
     for name in names:
         if name not in maps:
             raise UnknownMap(name, sorted(maps))
+    if not names:
+        raise NoMap(sorted(maps))
     laid = lay([maps[name] for name in names], ask.grid)
     ask.look()
     stages = [ask.stage(number / len(names) / 2, (number + 1) / len(names) / 2) for number in range(len(names))]

@@ -49,18 +49,31 @@ class Grid:
 
 
 @dataclass(frozen=True)
+class Moves:
+    """What a grid did to all maps together: how far the farthest coordinate was moved along an axis, in units of the
+    maps; how many corners were taken into edges that they lie on; how many long edges were bent, and at how many
+    places."""
+
+    moved: float = 0.0
+    taken: int = 0
+    bent: int = 0
+    bends: int = 0
+
+
+@dataclass(frozen=True)
 class Laid:
-    """Maps on a grid, of which so many units are one of the maps', the line that says what the grid did, and of each
-    map the features that had rings and have none now."""
+    """Maps on a grid, of which so many units are one of the maps', the line that says what the grid did, of each map
+    the features that had rings and have none now, and what the line says as numbers."""
 
     maps: list[Features]
     factor: Fraction
     line: str
     collapsed: list[Numbers]
+    moves: Moves = Moves()
 
     def alone(self, number: int) -> Laid:
         """One of the maps."""
-        return Laid([self.maps[number]], self.factor, self.line, [self.collapsed[number]])
+        return Laid([self.maps[number]], self.factor, self.line, [self.collapsed[number]], self.moves)
 
 
 def lay(columns: Sequence[Column], grid: Grid = Grid()) -> Laid:
@@ -74,7 +87,7 @@ def lay(columns: Sequence[Column], grid: Grid = Grid()) -> Laid:
         raise too_far(read[fault.map], fault) from None
     maps = [of_rings(one.rings.x, one.rings.y, one.rings.sizes, own.counts) for one, own in zip(done, read)]
     gone = [np.flatnonzero((own.counts > 0) & (np.diff(one.feature_at) == 0)) for one, own in zip(maps, read)]
-    return Laid(maps, factor, line_of(done, factor, grid.unit, choice), gone)
+    return Laid(maps, factor, line_of(done, factor, grid.unit, choice), gone, moves_of(done, factor))
 
 
 def shapes_of(number: int, column: Column) -> Shapes:
@@ -99,6 +112,12 @@ def too_far(read: Shapes, fault: BeyondRange) -> MapFault:
     feature = int(owners(read.counts)[owners(read.sizes)[fault.at]])
     grid = None if fault.would_do is None else 1 / fault.would_do
     return MapFault(fault.map, feature, What.RANGE, str(fault), fault.coordinate, grid)
+
+
+def moves_of(done: Sequence[OnGrid], factor: Fraction) -> Moves:
+    """What the grid did, as numbers."""
+    farthest = max((one.moved for one in done), default=0.0) / float(factor)
+    return Moves(farthest, *(sum(own) for own in zip(*((one.taken, one.bent, one.bends) for one in done))))
 
 
 def line_of(done: Sequence[OnGrid], factor: Fraction, unit: Unit, choice: Choice | None) -> str:
