@@ -92,7 +92,7 @@ def made(path: Path, draw: random.Random, parcels: int = 9, zones: int = 3, reac
 class Land:
     """A register in a file, and the program."""
 
-    path: Path
+    path: Path | str
     register: Register
     program: Program
 
@@ -133,7 +133,7 @@ def whole(number: float) -> int:
         int(scaled.to_integral_value(rounding=ROUND_HALF_UP))
 
 
-def features_in(path: Path, name: str) -> dict[int, Feature]:
+def features_in(path: Path | str, name: str) -> dict[int, Feature]:
     """The features of a layer in whole numbers, by OGR: those that are polygons."""
     store = gdal.OpenEx(str(path), gdal.OF_VECTOR | gdal.OF_READONLY)
     found = {}
@@ -190,7 +190,7 @@ def segments_meet(first: slabs.Segment, second: slabs.Segment) -> bool:
     return any(not side and within_box(*three) for side, three in zip(sides, ends))
 
 
-def expected(path: Path, kept: Kept) -> dict[Row, Fraction]:
+def expected(path: Path | str, kept: Kept) -> dict[Row, Fraction]:
     """What a table is to have: keys and relation, or a cell, and the area."""
     maps = {name: features_in(path, name) for name in ("parcels", "zones")}
     if kept.kind is Kind.DERIVE:
@@ -244,7 +244,7 @@ def check_tables(own: Land, keeps: tuple[Kept, ...] = ALL) -> None:
             got, bound = have[key]
             assert abs(Fraction(got) - area / GRID**2) <= Fraction(bound), (kept.name, key)
         if kept.kind is not Kind.DERIVE:
-            wrong = own.ask(f"SELECT 1 FROM {kept.table()} JOIN parcels ON fid = a WHERE nr IS NOT a_id")
+            wrong = own.ask(f"SELECT 1 FROM {kept.table()} JOIN parcels ON fid = a WHERE nr IS DISTINCT FROM a_id")
             assert not wrong and not own.ask(f"SELECT 1 FROM {kept.table()} WHERE b_id IS NOT NULL") \
                 or kept.kind is Kind.CHECK
 
@@ -295,7 +295,7 @@ def edit_by_sql(engine: GeoPackage, name: str, draw: random.Random) -> None:
     engine.ask(chosen[1], *chosen[2])
 
 
-def by_ogr(path: Path, draw: random.Random, edits: int) -> None:
+def by_ogr(path: Path | str, draw: random.Random, edits: int) -> None:
     """Edits by OGR."""
     for _ in range(edits):
         store = gdal.OpenEx(str(path), gdal.OF_VECTOR | gdal.OF_UPDATE)

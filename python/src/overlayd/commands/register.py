@@ -18,17 +18,19 @@ from ..program_files import FEATURES, found_program
 from ..register import sources, statements
 from ..register.answers import Program
 from ..register.auditing import audit as audited
+from ..register.engines import Engine
 from ..register.filling import keep as begin_to_keep
 from ..register.gridding import grid_for
 from ..register.model import Kept, Kind, Refused, factor_of
 from ..register.package import GeoPackage
+from ..register.postgis import PREFIX, PostGis
 from ..register.refreshing import refresh as refreshed
 from ..register.registers import Register
 from ..register.snapping import snap
 from ..register.watching import Watching
 from ..words import Group, argument, flag, option, program
 
-FILE = argument("file", metavar="FILE.gpkg")
+FILE = argument("file", metavar="FILE")
 PROGRAM = program(FEATURES)
 GRID = option("--grid", "the grid, as 0.001 (default: by the layers' own digits)", metavar="UNIT")
 IDENT = option("--id idents", "what users call features: it stands in results beside the key", multiple=True,
@@ -60,6 +62,9 @@ class Reporting(Group):
 def command() -> None:
     """Keeps what the features of a GeoPackage overlap, and follows each edit of any program.
 
+    FILE is a GeoPackage, or a database of PostGIS as GDAL names it: PG:service=land, or "PG:dbname=land host=db". A
+    password is not taken here: PGPASSFILE or the service file names it.
+
     Layers stay ordinary layers, which QGIS, ogr2ogr and SQL edit. Tables of results (overlay_result_NAME) stand beside
     them in the same file: pairs of two layers with relation and common area, overlaps within one layer, areas of an
     expression over layers. `refresh` brings them up to date once, `watch` for as long as it runs; only what is near a
@@ -67,9 +72,16 @@ def command() -> None:
     """
 
 
+def engine_of(file: str) -> Engine:
+    """The database that is named: a GeoPackage, or PostGIS by the words of libpq after PG:."""
+    if file.startswith(PREFIX):
+        return PostGis(file)
+    return GeoPackage(file)
+
+
 def opened(file: str) -> Register:
     """The register of a file."""
-    register = Register(GeoPackage(file))
+    register = Register(engine_of(file))
     register.need()
     return register
 
@@ -87,7 +99,7 @@ def ready(file: str, program: str | None) -> tuple[Register, Program]:
 
 def begun(file: str, names: list[str], grid: str | None, idents: dict[str, str], snaps: bool) -> None:
     """Makes a register where none is there, and takes layers in, on its grid where that is wanted."""
-    register = Register(GeoPackage(file))
+    register = Register(engine_of(file))
     if not register.engine.is_register():
         factor = factor_of(grid) if grid else grid_for(register.engine, names)
         register.begin(factor)
@@ -105,6 +117,8 @@ def begun(file: str, names: list[str], grid: str | None, idents: dict[str, str],
 
 def snapped_onto(file: str, names: list[str], factor: Fraction) -> None:
     """Takes layers onto a grid."""
+    if file.startswith(PREFIX):
+        raise Refused("in PostGIS a layer is not brought onto a grid: ST_SnapToGrid does that")
     engine = GeoPackage(file, writes_layers=True)
     for name, count in snap(engine, [engine.layer(name, None) for name in names], factor).items():
         if count:
@@ -126,6 +140,8 @@ def idents_of(words: tuple[str, ...], names: list[str]) -> dict[str, str]:
 @command.command(params=[FILE, argument("files", metavar="SOURCE...", nargs=-1, required=True), GRID, IDENT])
 def init(file: str, files: tuple[str, ...], grid: str | None, idents: tuple[str, ...]) -> None:
     """Makes a GeoPackage of maps in other files, and a register in it."""
+    if file.startswith(PREFIX):
+        raise Refused("layers come into PostGIS by ogr2ogr or shp2pgsql; then `overlay register adopt` takes them")
     if Path(file).exists():
         raise Refused(f"{file} is there already: `overlay register adopt` makes a register in it")
     if grid:
@@ -139,6 +155,8 @@ def init(file: str, files: tuple[str, ...], grid: str | None, idents: tuple[str,
     option("--layer layers", "of several layers in the source these alone", metavar="NAME", multiple=True)])
 def add(file: str, source: str, layers: tuple[str, ...], idents: tuple[str, ...]) -> None:
     """Copies layers of another file into a register."""
+    if file.startswith(PREFIX):
+        raise Refused("layers come into PostGIS by ogr2ogr or shp2pgsql; then `overlay register adopt` takes them")
     opened(file)
     names = sources.copy(source, file, [*layers] or None)
     begun(file, names, None, idents_of(idents, names), snaps=True)
@@ -214,7 +232,7 @@ def watch(file: str, program: str | None) -> None:
     stopped: list[int] = []
     for number in (signal.SIGINT, signal.SIGTERM):
         signal.signal(number, lambda own, _: stopped.append(own))
-    Watching(functools.partial(GeoPackage, file), own, say).run(lambda: not stopped)
+    Watching(functools.partial(engine_of, file), own, say).run(lambda: not stopped)
 
 
 @command.command(params=[FILE])
@@ -253,5 +271,5 @@ def audit(context: click.Context, file: str, part: int, program: str | None) -> 
 @command.command(params=[FILE])
 def upgrade(file: str) -> None:
     """Brings the tables of an earlier version of this command over."""
-    register = Register(GeoPackage(file))
+    register = Register(engine_of(file))
     click.echo("brought over" if register.upgrade() else "the tables are of this version")

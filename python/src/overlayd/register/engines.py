@@ -56,6 +56,10 @@ def digest(shape: bytes | None, ident: str | None) -> bytes:
 class Engine(Protocol):
     """A database with layers in it, by one connection."""
 
+    @property
+    def busy(self) -> tuple[type[Exception], ...]:
+        """What is raised where others are in the way."""
+
     def ask(self, text: str, *values: object) -> list[Row]:
         """The rows of a statement."""
 

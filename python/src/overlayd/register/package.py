@@ -22,6 +22,7 @@ EXTENSION = ("overlayd_register", "docs/register.md", "write-only")
 EXTENSIONS = ("CREATE TABLE IF NOT EXISTS gpkg_extensions (table_name TEXT, column_name TEXT, extension_name TEXT NOT"
               " NULL, definition TEXT NOT NULL, scope TEXT NOT NULL, CONSTRAINT ge_tce UNIQUE (table_name, column_name,"
               " extension_name))")
+WHO = "one INTEGER PRIMARY KEY CHECK (one = 1), who TEXT, change BIGINT"  # of the transaction that is under way
 INDEX = "CREATE VIRTUAL TABLE {} USING rtree(id, minx, maxx, miny, maxy, +digest BLOB)"
 NEAR = ("WHERE t.{key} IN (SELECT i.id FROM overlay_boxes q CROSS JOIN {index} i WHERE i.maxx >= q.minx"
         " AND i.minx <= q.maxx AND i.maxy >= q.miny AND i.miny <= q.maxy)")
@@ -49,6 +50,11 @@ class GeoPackage:
             add_functions(self.db)
         else:
             self.ask("PRAGMA trusted_schema = OFF")
+
+    @property
+    def busy(self) -> tuple[type[Exception], ...]:
+        """What is raised where others are in the way."""
+        return (sqlite3.OperationalError,)
 
     def ask(self, text: str, *values: object) -> list[Row]:
         return self.db.execute(text, values).fetchall()
@@ -89,6 +95,8 @@ class GeoPackage:
             self.create(name, columns, is_listed=True)
         for name, columns in statements.OWN.items():
             self.create(name, columns, is_listed=False)
+        self.create("overlay_who", WHO, is_listed=False)
+        self.ask("INSERT INTO overlay_who (one, who, change) VALUES (1, NULL, NULL)")
 
     def create(self, name: str, columns: str, is_listed: bool) -> None:
         body = columns.replace("id KEY", "id INTEGER PRIMARY KEY AUTOINCREMENT NOT NULL")

@@ -57,7 +57,6 @@ class Register:
         with self.engine.writing():
             self.engine.begin()
             self.engine.ask(statements.BEGIN_STATE, FORM, str(factor))
-            self.engine.ask(statements.BEGIN_WHO)
             self.engine.ask(statements.SCHEMA_IS, self.engine.schema())
 
     def adopt(self, name: str, ident: str | None = None) -> None:

@@ -14,7 +14,6 @@ LISTED = {
 OWN = {
     "overlay_state": "one INTEGER PRIMARY KEY CHECK (one = 1), form INTEGER NOT NULL, version BIGINT NOT NULL, at TEXT,"
                      " schema_was BIGINT NOT NULL, factor TEXT NOT NULL",
-    "overlay_who": "one INTEGER PRIMARY KEY CHECK (one = 1), who TEXT, change BIGINT",
     "overlay_layer": "name TEXT PRIMARY KEY, geom TEXT NOT NULL, key TEXT NOT NULL, ident TEXT",
 }
 PAIRS = ("id KEY, a BIGINT NOT NULL, b BIGINT NOT NULL, a_id TEXT, b_id TEXT, relation TEXT NOT NULL,"
@@ -23,7 +22,6 @@ CELLS = "id KEY, i BIGINT NOT NULL, j BIGINT NOT NULL, area DOUBLE PRECISION, bo
 INDEXES = {PAIRS: ("a, b", "b"), CELLS: ("i, j",)}  # the first of each is unique
 
 BEGIN_STATE = "INSERT INTO overlay_state (one, form, version, at, schema_was, factor) VALUES (1, ?, 0, NULL, 0, ?)"
-BEGIN_WHO = "INSERT INTO overlay_who (one, who, change) VALUES (1, NULL, NULL)"
 STATE = "SELECT form, version, at, schema_was, factor FROM overlay_state"
 SCHEMA_IS = "UPDATE overlay_state SET schema_was = ?"
 NEXT = "UPDATE overlay_state SET version = version + 1, at = ?"

@@ -3,7 +3,6 @@
 from __future__ import annotations
 
 import random
-import sqlite3
 import time
 from collections.abc import Callable
 from dataclasses import dataclass
@@ -63,7 +62,7 @@ class Watching:
             if count:
                 self.say(f"{count} changes in {1000 * (time.process_time() - began):.0f} ms, version "
                          f"{register.state().version}")
-        except sqlite3.OperationalError as fault:
+        except register.engine.busy as fault:
             self.say(f"not refreshed: {fault}; the changes wait")
 
     def _sample(self, register: Register) -> None:

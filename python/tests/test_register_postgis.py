@@ -1,0 +1,270 @@
+"""Registers in PostGIS, by a server of their own: tables beside fractions after edits by SQL and OGR, and stops."""
+
+from __future__ import annotations
+
+import importlib
+import importlib.util
+import os
+import random
+import shutil
+import subprocess
+import tempfile
+from collections.abc import Iterator
+from fractions import Fraction
+from pathlib import Path
+from typing import Any
+
+import pytest
+from osgeo import gdal
+
+from overlayd.kernel import Ask
+from overlayd.register.answers import Program
+from overlayd.register.auditing import audit
+from overlayd.register.filling import keep
+from overlayd.register.model import Refused
+from overlayd.register.postgis import PostGis
+from overlayd.register.registers import Register
+from overlayd.register.watching import Watching
+
+from . import register_works as works
+from .common import OVERLAY, SECONDS, Programs
+from .register_works import ALL, Land
+
+BINARIES = sorted(Path("/usr/lib/postgresql").glob("*/bin/initdb"))
+IS_THERE = bool(BINARIES) and importlib.util.find_spec("psycopg2") is not None and \
+    bool([*Path("/usr/share/postgresql").glob("*/extension/postgis.control")])
+pytestmark = [pytest.mark.features, pytest.mark.skipif(not IS_THERE, reason="no PostGIS, or no python3-psycopg2")]
+
+
+def ran(*words: object) -> None:
+    """A program of PostgreSQL, which does not run as root."""
+    own = ["runuser", "-u", "postgres", "--"] if os.geteuid() == 0 else []
+    subprocess.run([*own, *map(str, words)], check=True, capture_output=True, timeout=SECONDS)
+
+
+@pytest.fixture(scope="module")
+def server() -> Iterator[str]:
+    """The folder of a server's socket."""
+    folder = Path(tempfile.mkdtemp(prefix="pg"))
+    if os.geteuid() == 0:
+        shutil.chown(folder, "postgres")
+    binaries, data = BINARIES[-1].parent, folder / "data"
+    ran(binaries / "initdb", "-D", data, "-A", "trust", "-U", "land", "-N", "-E", "UTF8", "--locale=C.UTF-8")
+    options = f"-k {folder} -c listen_addresses= -c fsync=off -c jit=off"
+    ran(binaries / "pg_ctl", "-D", data, "-l", folder / "log", "-w", "-o", options, "start")
+    yield str(folder)
+    ran(binaries / "pg_ctl", "-D", data, "-m", "immediate", "stop")
+    shutil.rmtree(folder)
+
+
+@pytest.fixture
+def words(server: str, request: pytest.FixtureRequest) -> Iterator[str]:
+    """A database with PostGIS, as GDAL and the register name it."""
+    name = f"db{abs(hash(request.node.name))}"
+    for database, texts in (("postgres", [f"CREATE DATABASE {name}"]), (name, ["CREATE EXTENSION postgis"])):
+        store = connection(f"host={server} user=land dbname={database}")
+        for text in texts:
+            store.cursor().execute(text)
+        store.close()
+    yield f"PG:host={server} user=land dbname={name}"
+
+
+def connection(words: str) -> Any:
+    """A connection that commits each statement."""
+    store = importlib.import_module("psycopg2").connect(words.removeprefix("PG:"))
+    store.autocommit = True
+    return store
+
+
+def filled(words: str, folder: Path, seed: int, name: str = "land") -> None:
+    """Brings two layers into a database, by GDAL."""
+    source = works.made(folder / f"{name}.gpkg", random.Random(seed))
+    for layer in ("parcels", "zones"):
+        options = gdal.VectorTranslateOptions(layers=[layer], accessMode="overwrite", layerCreationOptions=[
+            "FID=fid", "GEOMETRY_NAME=geom"])
+        gdal.VectorTranslate(words, str(source), options=options)
+
+
+def land(words: str, folder: Path, seed: int) -> Land:
+    """A register with tables."""
+    filled(words, folder, seed)
+    register = Register(PostGis(words))
+    register.begin(Fraction(works.GRID))
+    register.adopt("parcels", "nr")
+    register.adopt("zones")
+    assert Programs.features is not None
+    own = Land(words, register, Program(Ask(Programs.features), Fraction(works.GRID)))
+    for one in ALL:
+        keep(register, one, own.program)
+    return own
+
+
+def by_sql(words: str, draw: random.Random, edits: int) -> None:
+    """Edits by SQL, several a transaction."""
+    store = connection(words)
+    store.autocommit = False
+    for _ in range(edits):
+        with store, store.cursor() as cursor:
+            for _ in range(draw.choice((1, 1, 3))):
+                edit(cursor, draw.choice(("parcels", "parcels", "zones")), draw)
+    store.close()
+
+
+def edit(cursor: Any, name: str, draw: random.Random) -> None:
+    """One edit."""
+    cursor.execute(f"SELECT fid, ST_AsBinary(geom) FROM {name}")
+    rows = cursor.fetchall()
+    fid, was = draw.choice(rows)
+    shape = works.drawn(draw, 9) if was is None else works.shaken(draw, bytes(was))
+    texts = [
+        (8, f"UPDATE {name} SET geom = ST_GeomFromWKB(%s, 25832) WHERE fid = %s", (shape, fid)),
+        (2 if len(rows) > 3 else 0, f"DELETE FROM {name} WHERE fid = %s", (fid,)),
+        (2, f"INSERT INTO {name} (geom, nr) VALUES (ST_GeomFromWKB(%s, 25832), 'new')", (shape,)),
+        (1, f"UPDATE {name} SET nr = %s WHERE fid = %s", (f"n{draw.randrange(99)}", fid)),
+        (1, f"UPDATE {name} SET fid = (SELECT max(fid) + 1000 FROM {name}) WHERE fid = %s", (fid,)),
+        (0.5, f"UPDATE {name} SET geom = NULL WHERE fid = %s", (fid,)),
+    ]
+    (chosen,) = draw.choices(texts, [weight for weight, _, _ in texts])
+    cursor.execute(chosen[1], chosen[2])
+
+
+@pytest.mark.parametrize("seed", range(2))
+def test_tables_follow_sql_and_ogr(words: str, tmp_path: Path, seed: int) -> None:
+    own, draw = land(words, tmp_path, seed), random.Random(seed)
+    works.check_tables(own)
+    for writer in (by_sql, works.by_ogr, by_sql):
+        writer(words, draw, draw.randint(2, 6))
+        own.refresh(before_write=lambda: by_sql(words, draw, 1))
+        own.refresh()
+        works.check_tables(own)
+        assert own.refresh() == 0
+    assert all(one.is_right() and one.rows for one in audit(own.register, own.program))
+
+
+def test_a_change_that_commits_late_is_not_lost(words: str, tmp_path: Path) -> None:
+    own = land(words, tmp_path, 3)
+    late, early = connection(words), connection(words)
+    late.autocommit = False
+    text = "UPDATE parcels SET geom = ST_Translate(geom, 1, 0) WHERE fid = %s"
+    cursor = late.cursor()
+    cursor.execute(text, (1,))  # takes the lower number
+    early.cursor().execute(text, (2,))
+    assert own.refresh() == 1
+    late.commit()
+    assert own.refresh() == 1
+    works.check_tables(own)
+
+
+def test_what_bypasses_triggers_is_found(words: str, tmp_path: Path) -> None:
+    own, told = land(words, tmp_path, 4), []
+    store = connection(words)
+    cursor = store.cursor()
+    cursor.execute("SET session_replication_role = replica")
+    cursor.execute("UPDATE parcels SET geom = ST_Translate(geom, 1, 0) WHERE fid < 4")
+    cursor.execute("SET session_replication_role = origin")
+    assert own.refresh() == 3
+    works.check_tables(own)
+    cursor.execute("ALTER TABLE parcels DISABLE TRIGGER overlay_mark")
+    by_sql(words, random.Random(4), 8)
+    cursor.execute("ALTER TABLE parcels ENABLE TRIGGER overlay_mark")
+    own.refresh(say=told.append)
+    works.check_tables(own)
+    assert any("unseen" in text for text in told)
+    with pytest.raises(Exception, match="not truncated"):
+        cursor.execute("TRUNCATE zones")
+    for text in ("ADD COLUMN owner TEXT", "DROP COLUMN owner"):
+        cursor.execute(f"ALTER TABLE parcels {text}")
+        by_sql(words, random.Random(5), 2)
+        own.refresh()
+    works.check_tables(own)
+
+
+def test_a_layer_that_is_written_over_is_looked_through(words: str, tmp_path: Path) -> None:
+    own = land(words, tmp_path, 5)
+    filled(words, tmp_path, 50, "other")
+    own.refresh()
+    works.check_tables(own)
+    connection(words).cursor().execute("DROP TABLE zones")
+    with pytest.raises(Refused, match="zones: no such layer"):
+        own.refresh()
+
+
+def test_curves_are_edited_and_told(words: str, tmp_path: Path) -> None:
+    own = land(words, tmp_path, 6)
+    cursor = connection(words).cursor()
+    cursor.execute("ALTER TABLE parcels ALTER geom TYPE geometry")
+    cursor.execute("UPDATE parcels SET geom = 'SRID=25832;CURVEPOLYGON(CIRCULARSTRING(0 0,9 0,0 0))' WHERE fid = 1")
+    cursor.execute("UPDATE parcels SET nr = 'round' WHERE fid = 1")
+    own.refresh()
+    assert own.ask("SELECT layer, fid, what FROM overlay_problem") == [("parcels", 1, "curved")]
+    assert own.ask("SELECT count(*) FROM overlay_result_pz WHERE a = 1") == [(0,)]
+    cursor.execute("DELETE FROM parcels WHERE fid = 1")
+    own.refresh()
+    works.check_tables(own)
+
+
+def test_who_edits_needs_no_rights_on_the_log(words: str, tmp_path: Path) -> None:
+    own = land(words, tmp_path, 7)
+    cursor = connection(words).cursor()
+    cursor.execute("DO $$ BEGIN CREATE ROLE editor LOGIN; EXCEPTION WHEN duplicate_object THEN NULL; END $$")
+    cursor.execute("GRANT SELECT, UPDATE ON parcels TO editor")
+    editor = connection(words.replace("user=land", "user=editor")).cursor()
+    editor.execute("UPDATE parcels SET geom = ST_Translate(geom, 1, 0) WHERE fid = 1")
+    with pytest.raises(Exception, match="permission denied"):
+        editor.execute("DELETE FROM overlay.overlay_log")
+    assert own.refresh() == 1
+    assert own.ask("SELECT who, what FROM overlay_log") == [("editor/", "update")]
+    works.check_tables(own)
+
+
+def test_kills_of_a_backend_leave_tables_of_one_state(words: str, tmp_path: Path) -> None:
+    own, draw = land(words, tmp_path, 8), random.Random(8)
+    killer = connection(words).cursor()
+    for number in range(6):
+        by_sql(words, draw, 4)
+        before = {one.name: own.table(one.name) for one in ALL}
+        victim = Land(words, Register(PostGis(words)), own.program)
+        ((process,),) = victim.ask("SELECT pg_backend_pid()")
+
+        def kill() -> None:
+            killer.execute("SELECT pg_terminate_backend(%s)", (process,))
+
+        with pytest.raises(Exception, match="terminat|closed|connection"):
+            victim.refresh(before_write=kill)
+        assert {one.name: own.table(one.name) for one in ALL} == before
+        own.refresh()
+        works.check_tables(own)
+
+
+def test_watch_wakes_when_somebody_commits(words: str, tmp_path: Path) -> None:
+    own = land(words, tmp_path, 9)
+    looks = iter(range(6))
+
+    def goes_on() -> bool:
+        number = next(looks, None)
+        if number == 2:
+            by_sql(words, random.Random(9), 2)
+        return number is not None
+
+    Watching(lambda: PostGis(words), own.program).run(goes_on)
+    assert not own.ask("SELECT 1 FROM overlay_pending")
+    works.check_tables(own)
+
+
+def test_layers_and_words_that_are_refused(words: str, tmp_path: Path) -> None:
+    own = land(words, tmp_path, 10)
+    cursor = connection(words).cursor()
+    cursor.execute("CREATE VIEW seen AS SELECT * FROM parcels")
+    cursor.execute("CREATE TABLE texts (code TEXT PRIMARY KEY, geom geometry)")
+    cursor.execute("CREATE SCHEMA cadastre CREATE TABLE plots (id INT PRIMARY KEY, shape public.geometry)")
+    for name, told in (("seen", "a view"), ("texts", r"is code \(text\)"), ("woods", "no such layer"),
+                       ("parcels", "already"), ("overlay.overlay_log", "without geometry")):
+        with pytest.raises(Refused, match=told):
+            own.register.adopt(name)
+    own.register.adopt("cadastre.plots")
+    own.register.remove("cadastre.plots")
+    with pytest.raises(Refused, match="a password is not taken"):
+        PostGis("PG:dbname=land password=secret")
+    done = subprocess.run([*OVERLAY, "register", "status", words], capture_output=True, text=True, timeout=SECONDS,
+                          check=True)
+    assert "layer zones: 0 changes pending" in done.stdout
