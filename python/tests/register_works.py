@@ -2,7 +2,6 @@
 
 from __future__ import annotations
 
-import importlib
 import random
 import sqlite3
 import struct
@@ -14,6 +13,7 @@ from itertools import combinations, product
 from pathlib import Path
 from typing import Any
 
+import pytest
 from osgeo import gdal, ogr, osr
 
 from overlayd.kernel import Ask
@@ -321,7 +321,7 @@ def by_ogr(path: Path | str, draw: random.Random, edits: int) -> None:
 
 def by_fiona(path: Path, draw: random.Random, edits: int) -> None:
     """Features that fiona appends."""
-    fiona: Any = importlib.import_module("fiona")
+    fiona: Any = pytest.importorskip("fiona")
     for _ in range(edits):
         with fiona.open(path, "a", layer="parcels") as sink:
             ring = rings_of(drawn(draw, 9))[0]

@@ -2,6 +2,7 @@
 
 from __future__ import annotations
 
+import dataclasses
 import random
 import sqlite3
 from pathlib import Path
@@ -9,8 +10,11 @@ from pathlib import Path
 import pytest
 from osgeo import gdal, ogr
 
+from overlayd.kernel.rows import BlockRefused
+from overlayd.register.answers import Program
 from overlayd.register.auditing import audit
 from overlayd.register.filling import keep
+from overlayd.register.lasting import Lasting
 from overlayd.register.model import Kept, Kind, Refused, names_in, spelled
 from overlayd.register.package import GeoPackage
 from overlayd.register.registers import Register
@@ -236,6 +240,26 @@ def test_a_save_that_changes_nothing_costs_no_answer(tmp_path: Path) -> None:
     writer.ask("REPLACE INTO parcels SELECT * FROM parcels")
     assert own.refresh() == 9
     assert own.table("pz") == before  # with the same numbers of rows
+
+
+def test_one_process_answers_all_refreshes_and_is_begun_anew_where_it_has_ended(tmp_path: Path) -> None:
+    own = land(tmp_path / "land.gpkg", 13)
+    line = Lasting()
+    asked = Land(own.path, own.register, Program(dataclasses.replace(own.program.ask, runs=line), own.program.factor))
+    for seed in range(4):
+        works.by_sql(own.path, random.Random(seed), 4)
+        asked.refresh()
+        works.check_tables(own)
+        if seed == 2:
+            line.close()
+    assert line.replies is not None
+    with pytest.raises(BlockRefused):
+        line.reply(own.program.ask.program, b"\x10" + bytes(15))
+    assert line.replies is None
+    works.by_sql(own.path, random.Random(9), 4)
+    asked.refresh()
+    works.check_tables(own)
+    line.close()
 
 
 def test_a_full_and_a_locked_database_lose_nothing(tmp_path: Path) -> None:

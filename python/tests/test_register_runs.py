@@ -2,6 +2,7 @@
 
 from __future__ import annotations
 
+import importlib.util
 import os
 import random
 import signal
@@ -36,6 +37,28 @@ from overlayd.register.registers import Register
 register = Register(GeoPackage(sys.argv[1]))
 refresh(register, Program(Ask(sys.argv[2]), Fraction(1000)), before_write=lambda: print("writes", flush=True))
 print("done", flush=True)
+"""
+# Edits by QGIS without a screen: a corner moved, a feature added, one deleted, a value changed.
+QGIS = """
+import sys
+from qgis.core import QgsApplication, QgsFeature, QgsGeometry, QgsVectorLayer
+app = QgsApplication([], False)
+app.initQgis()
+layer = QgsVectorLayer(sys.argv[1], "parcels", "ogr" if "|" in sys.argv[1] else "postgres")
+assert layer.isValid()
+ids = sorted(feature.id() for feature in layer.getFeatures())
+assert layer.startEditing()
+shape = layer.getFeature(ids[0]).geometry()
+point = shape.vertexAt(1)
+assert shape.moveVertex(point.x() + 1.25, point.y() - 0.5, 1)
+assert layer.changeGeometry(ids[0], shape)
+more = QgsFeature(layer.fields())
+moved = layer.getFeature(ids[1]).geometry()
+moved.translate(2, 1)
+more.setGeometry(moved)
+assert layer.addFeature(more) and layer.deleteFeature(ids[2])
+assert layer.changeAttributeValue(ids[3], layer.fields().indexOf("nr"), "by QGIS")
+assert layer.commitChanges(), layer.commitErrors()
 """
 
 
@@ -188,6 +211,19 @@ def test_watch_opens_the_file_that_takes_the_place_of_another(tmp_path: Path) ->
     again = Land(own.path, Register(GeoPackage(str(own.path))), own.program)
     assert not again.ask("SELECT 1 FROM overlay_pending")
     works.check_tables(again)
+
+
+@pytest.mark.skipif(importlib.util.find_spec("qgis") is None, reason="no python3-qgis")
+def test_a_register_is_edited_by_qgis(tmp_path: Path) -> None:
+    own = land(tmp_path / "land.gpkg", 9)
+    words = [sys.executable, "-c", QGIS, f"{own.path}|layername=parcels"]
+    done = subprocess.run(words, capture_output=True, text=True, timeout=SECONDS, check=False,
+                          env={**os.environ, "QT_QPA_PLATFORM": "offscreen", "HOME": str(tmp_path)})
+    assert done.returncode == 0, done.stderr
+    assert own.refresh() == 4
+    works.check_tables(own)
+    assert own.ask("SELECT DISTINCT a_id FROM overlay_result_pz WHERE a_id = 'by QGIS'") or \
+        not works.expected(own.path, ALL[0])
 
 
 def test_a_register_is_edited_by_ogr2ogr(tmp_path: Path) -> None:

@@ -4,6 +4,7 @@ in it tables of pairs, overlaps and derived areas that follow each edit.
 
 from __future__ import annotations
 
+import dataclasses
 import functools
 import signal
 from fractions import Fraction
@@ -21,6 +22,7 @@ from ..register.auditing import audit as audited
 from ..register.engines import Engine
 from ..register.filling import keep as begin_to_keep
 from ..register.gridding import grid_for
+from ..register.lasting import Lasting
 from ..register.model import Kept, Kind, Refused, factor_of
 from ..register.package import GeoPackage
 from ..register.postgis import PREFIX, PostGis
@@ -89,6 +91,11 @@ def opened(file: str) -> Register:
 def program_asked(path: str | None, factor: Fraction) -> Program:
     """How the program is asked."""
     return Program(Ask(path or found_program(FEATURES)), factor)
+
+
+def lasting(program: Program) -> Program:
+    """The same by one process that stays."""
+    return Program(dataclasses.replace(program.ask, runs=Lasting()), program.factor)
 
 
 def ready(file: str, program: str | None) -> tuple[Register, Program]:
@@ -220,7 +227,7 @@ def unkeep(file: str, name: str) -> None:
 def refresh(file: str, program: str | None) -> None:
     """Brings all tables of results up to date, once."""
     register, own = ready(file, program)
-    count = refreshed(register, own, say)
+    count = refreshed(register, lasting(own), say)
     click.echo(f"{count} changes, version {register.state().version}")
 
 
@@ -229,6 +236,7 @@ def watch(file: str, program: str | None) -> None:
     """Keeps all tables of results up to date, until it is stopped (Ctrl+C, or a signal to end)."""
     register, own = ready(file, program)
     register.engine.close()
+    own = lasting(own)
     stopped: list[int] = []
     for number in (signal.SIGINT, signal.SIGTERM):
         signal.signal(number, lambda own, _: stopped.append(own))

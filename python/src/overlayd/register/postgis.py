@@ -28,7 +28,10 @@ class PostGis:
 
     def __init__(self, words: str) -> None:
         self.words, self.heard, self.listens = words, 0, False
-        self.psycopg: Any = importlib.import_module("psycopg2")
+        try:
+            self.psycopg: Any = importlib.import_module("psycopg2")
+        except ModuleNotFoundError:
+            raise Refused("PostGIS needs psycopg2: apt-get install python3-psycopg2") from None
         self.extras: Any = importlib.import_module("psycopg2.extras")
         if re.search(r"\bpassword\s*=|://[^/@]*:[^/@]*@", words):
             raise Refused("a password is not taken from the command line: PGPASSFILE or a service file names it")
