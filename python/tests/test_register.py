@@ -78,6 +78,17 @@ def test_a_change_during_a_refresh_is_not_lost(tmp_path: Path) -> None:
     works.check_tables(own)
 
 
+def test_who_writes_does_not_wait_for_who_reads(tmp_path: Path) -> None:
+    own = land(tmp_path / "land.gpkg", 3, (PAIRS,))
+    writer = GeoPackage(str(own.path), writes_layers=True, patience=0.2)
+    with own.register.engine.reading():
+        before = own.ask("SELECT count(*) FROM parcels")
+        writer.ask("DELETE FROM parcels WHERE fid = 1")
+        assert own.ask("SELECT count(*) FROM parcels") == before
+    own.refresh()
+    works.check_tables(own, (PAIRS,))
+
+
 def test_the_same_feature_changed_again_during_a_refresh_is_not_lost(tmp_path: Path) -> None:
     own = land(tmp_path / "land.gpkg", 3)
     writer = GeoPackage(str(own.path), writes_layers=True)
@@ -301,6 +312,9 @@ def test_layers_come_and_go(tmp_path: Path) -> None:
     before = set(works.rows_of(works.made(tmp_path / "bare.gpkg", random.Random(11)), "SELECT name FROM sqlite_master"))
     with pytest.raises(Refused, match="zones is needed by pz"):
         own.register.remove("zones")
+    with pytest.raises(Refused, match="PZ is kept already"):
+        keep(own.register, Kept("PZ", Kind.CHECK, "parcels", "parcels"), own.program)
+    works.check_tables(own, (PAIRS,))
     own.register.unkeep("pz")
     with pytest.raises(Refused, match="pz: not kept"):
         own.register.unkeep("pz")

@@ -7,6 +7,7 @@ from __future__ import annotations
 import dataclasses
 import functools
 import signal
+import sqlite3
 from fractions import Fraction
 from pathlib import Path
 
@@ -25,7 +26,7 @@ from ..register.gridding import grid_for
 from ..register.lasting import Lasting
 from ..register.model import Kept, Kind, Refused, factor_of
 from ..register.package import GeoPackage
-from ..register.postgis import PREFIX, PostGis
+from ..register.postgis import PREFIX, PostGis, faults
 from ..register.refreshing import refresh as refreshed
 from ..register.registers import Register
 from ..register.snapping import snap
@@ -50,13 +51,14 @@ class Reporting(Group):
 
     def invoke(self, context: click.Context) -> int:
         modules()
+        ends: tuple[type[Exception], ...] = (Unusable, sqlite3.Error, *faults())
         try:
             return int(super().invoke(context) or 0)
         except Refused as fault:
             say(f"overlay register: {fault}")
             return 2
-        except Unusable as fault:
-            say(f"overlay register: {fault}")
+        except ends as fault:
+            say(f"overlay register: {str(fault).strip()}")
             return 1
 
 

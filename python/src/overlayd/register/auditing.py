@@ -8,16 +8,18 @@ from dataclasses import dataclass
 
 import numpy as np
 
+from ..geometry.flat_arrays import Numbers
 from . import statements
 from .answers import Program
 from .engines import Row, filled
-from .filling import rows_of
+from .filling import all_cells
 from .looking import need_layers
 from .model import Kept, Kind
 from .registers import Register
-from .sides import Side, side_of
+from .sides import Side, cell_rows, pair_rows, side_of
 
 SHOWN = 5
+NO_CELLS: Numbers = np.zeros((0, 2), np.int64)
 
 
 @dataclass(frozen=True)
@@ -58,19 +60,25 @@ def audit(register: Register, program: Program, part: int = 1, draw: random.Rand
     return [compared(one, have[one.name], sides, program, pending, chosen(sides, one, part, draw)) for one in kept]
 
 
-def chosen(sides: dict[str, Side], kept: Kept, part: int, draw: random.Random | None) -> set[int] | None:
-    """The keys of the features of the first layer by which a table is audited; None for all."""
-    if part <= 1 or kept.kind is Kind.DERIVE:
+def chosen(sides: dict[str, Side], kept: Kept, part: int, draw: random.Random | None) -> set[object] | None:
+    """The keys of the features of the first layer, or the cells, by which a table is audited; None for all."""
+    if part <= 1:
         return None
-    fids = sides[kept.layers()[0]].found.fids
-    return set((draw or random.Random()).sample(fids, -(-len(fids) // part)))
+    of: list[object] = [*sides[kept.layers()[0]].found.fids]
+    if kept.kind is Kind.DERIVE:
+        of = [*map(tuple, all_cells(kept, sides).tolist())]
+    return set((draw or random.Random()).sample(of, -(-len(of) // part)))
 
 
 def compared(kept: Kept, have: list[Row], sides: dict[str, Side], program: Program, pending: int,
-             only: set[int] | None) -> Audit:
+             only: set[object] | None) -> Audit:
     """One table beside what is worked out anew."""
     own = dict(sides)
-    if only is not None:
+    cells = all_cells(kept, sides) if kept.kind is Kind.DERIVE else NO_CELLS
+    if only is not None and kept.kind is Kind.DERIVE:
+        cells = np.array([one for one in cells.tolist() if tuple(one) in only], np.int64).reshape(-1, 2)
+        have = [row for row in have if row[:2] in only]
+    elif only is not None:
         name = kept.layers()[0]
         side = sides[name]
         is_chosen = np.array([fid in only for fid in side.found.fids])
@@ -79,7 +87,8 @@ def compared(kept: Kept, have: list[Row], sides: dict[str, Side], program: Progr
                   for other, one in sides.items() if other != name}
         own |= others
         have = [row for row in have if row[0] in only or (kept.kind is Kind.CHECK and row[1] in only)]
-    want = {key_of(kept, row): row for some in rows_of(kept, own, program) for row in some}
+    made = cell_rows(kept, own, cells, program) if kept.kind is Kind.DERIVE else pair_rows(kept, own, program)
+    want = {key_of(kept, row): row for some in made for row in some}
     there = {key_of(kept, row): row for row in have}
     missing = [row for key, row in want.items() if key not in there]
     wrong = [row for key, row in there.items() if key not in want or not is_same(row, want[key])]

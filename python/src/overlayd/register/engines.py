@@ -123,6 +123,12 @@ class Engine(Protocol):
     def wait(self, seconds: float) -> None:
         """Waits for a change, so long at most."""
 
+    def hold(self) -> None:
+        """Has those who read be in the way of nobody who writes, where that is to be asked for."""
+
+    def settle(self) -> None:
+        """Has all that is written stand where it is to be, as far as nobody else is in the way."""
+
     def close(self) -> None:
         """Ends the connection."""
 

@@ -47,7 +47,7 @@ def check(register: Register, kept: Kept, program: Program) -> None:
     """Refuses what cannot be kept."""
     if not NAME.fullmatch(kept.name):
         raise Refused(f"{kept.name}: a name has letters, digits and _, and begins with a letter")
-    if kept.name in {one.name for one in register.kept()}:
+    if kept.table().lower() in {one.table().lower() for one in register.kept()}:  # SQLite's names have no case
         raise Refused(f"{kept.name} is kept already: `overlay register unkeep` it first")
     if kept.cell < 0:
         raise Refused("a cell is at least one unit of the grid wide")

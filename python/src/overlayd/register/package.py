@@ -182,6 +182,15 @@ class GeoPackage:
         except FileNotFoundError:
             return True
 
+    def hold(self) -> None:
+        """Has the file keep a log of what is written, so that nobody who reads is in the way of who writes."""
+        with contextlib.suppress(sqlite3.OperationalError):  # locked, or on a drive that cannot do it
+            self.ask("PRAGMA journal_mode = WAL")
+
+    def settle(self) -> None:
+        """Puts what is in the log into the file, so that a file that takes its place finds none of it."""
+        self.ask("PRAGMA wal_checkpoint(TRUNCATE)")
+
     def close(self) -> None:
         self.db.close()
 

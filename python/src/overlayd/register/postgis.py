@@ -182,8 +182,22 @@ class PostGis:
     def is_replaced(self) -> bool:
         return False
 
+    def hold(self) -> None:
+        """Nothing: here nobody who reads is in the way of who writes."""
+
+    def settle(self) -> None:
+        """Nothing: the server does it."""
+
     def close(self) -> None:
         self.db.close()
+
+
+def faults() -> tuple[type[Exception], ...]:
+    """What a database may raise, where what asks it is there."""
+    try:
+        return (importlib.import_module("psycopg2").Error,)
+    except ModuleNotFoundError:
+        return ()
 
 
 def place_of(name: str) -> str:

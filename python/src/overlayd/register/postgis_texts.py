@@ -47,7 +47,7 @@ TRIGGERS = {
     "overlay_all": "BEFORE TRUNCATE ON {layer} FOR EACH STATEMENT",
 }
 FOUND_TRIGGERS = ("SELECT tgname::text, tgenabled::text, encode(tgargs, 'escape') FROM pg_trigger"
-                  " WHERE tgrelid = ?::regclass AND NOT tgisinternal AND tgname::text LIKE 'overlay\\_%'")
+                  " WHERE tgrelid = to_regclass(?) AND NOT tgisinternal AND tgname::text LIKE 'overlay\\_%'")
 POSTGIS = ("SELECT n.nspname::text FROM pg_extension e JOIN pg_namespace n ON n.oid = e.extnamespace"
            " WHERE e.extname = 'postgis'")
 TABLE = "SELECT c.relkind::text FROM pg_class c WHERE c.oid = to_regclass(?)"

@@ -54,6 +54,7 @@ class Register:
         """Makes a register without layers."""
         if self.engine.is_register():
             raise Refused("there is a register already")
+        self.engine.hold()
         with self.engine.writing():
             self.engine.begin()
             self.engine.ask(statements.BEGIN_STATE, FORM, str(factor))

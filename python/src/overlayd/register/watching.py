@@ -44,6 +44,7 @@ class Watching:
         register, seen, looked = Register(engine), object(), 0.0
         sampled = time.monotonic()
         register.need()
+        engine.hold()
         while goes_on() and not engine.is_replaced():
             now, token = time.monotonic(), engine.token()
             if token != seen or now - looked > IDLE:
@@ -60,6 +61,7 @@ class Watching:
             began = time.process_time()
             count = refresh(register, self.program, self.say)
             if count:
+                register.engine.settle()
                 self.say(f"{count} changes in {1000 * (time.process_time() - began):.0f} ms, version "
                          f"{register.state().version}")
         except register.engine.busy as fault:
