@@ -1,0 +1,25 @@
+"""The plugin of QGIS: its tests, in a process of their own, where QGIS is installed."""
+
+from __future__ import annotations
+
+import importlib.util
+import os
+import subprocess
+import sys
+
+import pytest
+
+from . import frames_made as made
+from .common import TOP
+
+SECONDS = 900
+
+
+@pytest.mark.features
+@pytest.mark.skipif(importlib.util.find_spec("qgis") is None, reason="no QGIS: apt-get install qgis python3-qgis")
+def test_the_tests_of_the_plugin_pass() -> None:
+    environment = {**os.environ, "OVERLAY_FEATURES": made.need_outlines(), "QT_QPA_PLATFORM": "offscreen"}
+    command = [sys.executable, "-m", "pytest", "-q", "-p", "no:cacheprovider", "-c", "/dev/null", "--rootdir",
+               str(TOP / "qgis" / "tests"), str(TOP / "qgis" / "tests")]
+    done = subprocess.run(command, env=environment, capture_output=True, text=True, timeout=SECONDS, check=False)
+    assert done.returncode == 0, done.stdout[-4000:] + done.stderr[-1000:]

@@ -1,0 +1,35 @@
+"""Layers for the tests, and how algorithms are run."""
+
+from __future__ import annotations
+
+from collections.abc import Sequence
+from typing import Any
+
+SYSTEM = "EPSG:25832"
+SQUARE = "POLYGON ((0 0, 10 0, 10 10, 0 10, 0 0))"
+BOW = "POLYGON ((1 1, 9 9, 9 1, 1 9, 1 1))"
+
+
+def run(name: str, **parameters: Any) -> Any:
+    import processing
+
+    return processing.run(f"exactoverlay:{name}", parameters)
+
+
+def layer(texts: Sequence[str], crs: str = SYSTEM, fields: str = "field=nr:integer", name: str = "made") -> Any:
+    """A layer in memory of Well-Known Text, numbered."""
+    from qgis.core import QgsFeature, QgsGeometry, QgsVectorLayer
+
+    found = QgsVectorLayer(f"MultiPolygon?crs={crs}&{fields}", name, "memory")
+    for number, text in enumerate(texts):
+        feature = QgsFeature(found.fields())
+        feature.setAttributes([number])
+        feature.setGeometry(QgsGeometry.fromWkt(text))
+        assert found.dataProvider().addFeature(feature)
+    return found
+
+
+def wave(corners: int, shift: int) -> str:
+    """A polygon with a jagged top."""
+    top = [f"{place} {100 + (place % 7) * 11 + shift}" for place in range(corners)]
+    return f"POLYGON (({', '.join(top)}, {corners} 0, 0 0, {top[0]}))"
