@@ -29,9 +29,9 @@ class TooDeep(TooManyColours):
 
 @dataclass(frozen=True)
 class Audit:
-    """In parts of 2^-40 of twice a unit square. Of each layer: the area of its features that are in no other layer, less
-    those of each; then what is covered and what is open, less the frame; then what three features or more have in
-    common, by what is covered; and how much each of these may be off by the program's bounds."""
+    """In parts of 2^-40 of twice a unit square. Of each layer: the area of its features that are in no other layer,
+    less those of each; then what is covered and what is open, less the frame; then what three features or more have
+    in common, by what is covered; and how much each of these may be off by the program's bounds."""
 
     colours: list[int]
     frame: int

@@ -54,7 +54,7 @@ class Members:
 
     def spread(self, features: Numbers) -> tuple[Numbers, Numbers]:
         """Of each layer of each of these features the place of the feature among them, and the layer."""
-        begin, end = (np.searchsorted(self.feature, features, side) for side in ("left", "right"))
+        begin, end = np.searchsorted(self.feature, features), np.searchsorted(self.feature, features, "right")
         return np.repeat(np.arange(len(features)), end - begin), self.layer[spans(begin, end - begin)]
 
 

@@ -45,7 +45,7 @@ def pairs_of_boxes(given: Iterable[Iterable[Point]]) -> list[tuple[int, int]]:
 
     from ..kernel import box_pairs
 
-    boxes: list[Any] = [Box.of_whole(points) if points else (1, 1, 0, 0) for points in map(list, given)]
+    boxes: list[Any] = [Box.of_whole(points) if points else (1, 1, 0, 0) for points in ([*one] for one in given)]
     return [(i, j) for i, j in box_pairs.pairs_within(np.array(boxes, np.int64).reshape(-1, 4)).tolist()]
 
 
