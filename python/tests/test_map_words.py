@@ -114,6 +114,13 @@ class Tables(WithMaps):
         self.assertEqual(short(self.asked(*words, "--b-where", "nr = 'Z2'")[1]), [["P2", "Z2", "touches", 0.0]])
         self.assertIn("a.geojson: ", self.refused(*words, "--where", "no = 1"))
 
+    def test_a_table_of_pieces_is_not_written_into_a_file_of_shapes(self) -> None:
+        a, b = self.map("a", {"P": square(0, 0, 10)}), self.map("b", {"Q": square(5, 5, 10)})
+        for name in ("pieces.gpkg", "pieces.geojson"):
+            status, _, errors = self.asked("pieces", a, b, "--out", self.folder / name)
+            self.assertEqual((status, (self.folder / name).exists()), (2, False))
+            self.assertIn(f"say --pieces {self.folder / name} for the shapes", errors)
+
     def test_pieces(self) -> None:
         self.need_outlines()
         a, b = self.map("a", {"P": square(0, 0, 10)}), self.map("b", {"Z": square(5, 0, 10), "Y": square(5, 5, 10)})

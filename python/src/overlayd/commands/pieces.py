@@ -81,6 +81,8 @@ def command(question: Question) -> None:
     out: pathlib.Path | None = given["out"]
     shown: pathlib.Path | None = given["pieces"]
     map_words.check_outputs({"--out": out, "--pieces": shown}, (given["first"], given["second"]))
+    if out is not None and out.suffix in shape_files.ENDS:
+        raise click.UsageError(f"--out {out}: the table is CSV; say --pieces {out} for the shapes")
     shape_files.check(shown)
     a, b = question.read((given["first"], given["second"]), "ab")
     ask = question.ask(Wants.OUTLINES)
