@@ -323,8 +323,8 @@ that the book closes where a session is answered 43, and that a read or a write 
 49. No clause refuses a body that answers one of them without that cause; tests do.
 
 **Trusted** beside the kit: each program's proof rests on axioms, 43 of `overlayd`, 44 of `overlay_live` (also
-`__xpg_strerror_r`) and fewer of `overlay_window`; the gate's line of the program counts them (`axioms=`). Each is what
-the kit says of a C function that the program may reach, as a contract without a proof. Of the C library: `chdir`,
+`__xpg_strerror_r`) and fewer of `overlay_features`; the gate's line of the program counts them (`axioms=`). Each is
+what the kit says of a C function that the program may reach, as a contract without a proof. Of the C library: `chdir`,
 `chmod`, `chown`, `close`, `fchmod`, `fdatasync`, `flock`, `fsync`, `ftruncate`, `futimens`, `getcwd`, `lchown`, `link`,
 `lseek`, `mkdir`, `bind`, `pipe2`, `pread`, `pwrite`, `read`, `readlink`, `realpath`, `rename`, `rmdir`,
 `sched_getaffinity`, `statx`, `symlink`, `sysconf`, `unlink`, `write`, `fcntl`, `getdents64`, `open`, `unlinkat`; of the
