@@ -4,9 +4,13 @@ features over one place."""
 import csv
 import math
 import random
+import re
 import subprocess
 import time
 from typing import Any
+
+from shapely.geometry import Polygon
+from shapely.ops import unary_union
 
 from .common import OVERLAY, Programs
 from .test_map_words import WithMaps, square
@@ -55,7 +59,9 @@ class Checks(WithMaps):
         pile = {f"q{at}": [*ring, ring[0]] for at, ring in enumerate(rings)}
         beside = {"left": square(200, 0, 10), "right": square(209, 0, 10)}
         status, rows, errors = self.checked(self.map("a", {**pile, **beside}), "--factor", 1)
-        self.assertEqual((status, len(rows)), (1, 60 * 59 // 2 + 1), errors)
+        self.assertEqual((status, len(rows)), (0, 60 * 59 // 2 + 1), errors)
         self.assertIn(["left", "right", "10.0"], [[*row[:2], row[3]] for row in rows])
-        self.assertRegex(errors, r"a.geojson, feature [0-9]+ \(q[0-9]+\): it overlaps so many others that 29 layers do "
-                         "not hold them; take features out there: gaps are not looked for, the audit is left out\n")
+        covered = re.search(r"what is covered \(([0-9.]+)\) and what is open are the whole frame", errors)
+        assert covered, errors
+        union = unary_union([Polygon(ring) for ring in (*pile.values(), *beside.values())])
+        self.assertAlmostEqual(float(covered[1]), union.area, delta=1e-6)
