@@ -56,14 +56,16 @@ def corners(shape: Any) -> slabs.Ring:
 
 def test_areas_are_within_their_bounds() -> None:
     left, right = (made.stars(seed, 12).assign(geometry=lambda frame: frame.geometry.apply(whole)) for seed in (1, 2))
-    found = overlayd.pairs(left, right, exact="fraction")
+    assert Programs.features is not None
+    is_exact = made.makes_outlines(Programs.features)
+    found = overlayd.pairs(left, right, exact="fraction" if is_exact else None)
     assert len(found) > 30
     for row in found.itertuples():
         first, second = (corners(frame.geometry.iloc[place]) for frame, place in (
             (left, row.star_left), (right, row.star_right)))
         area = slabs.common([first], [second])
         assert abs(Fraction(row.shared_area) - area) <= Fraction(row.shared_area_bound)
-        assert abs(row.fraction - area) < Fraction(1, 2**30)
+        assert not is_exact or row.fraction == area
 
 
 def whole(shape: Any) -> Any:

@@ -20,7 +20,7 @@ pytestmark = pytest.mark.features
 
 OVERLAY = ["geopandas.tests.test_overlay"]
 SJOIN = ["geopandas.tools.tests.test_sjoin", "-k", "not Nearest"]
-SECONDS = 3000  # far more than it takes on a quiet machine: half a minute
+SECONDS = 3000  # far more than they take
 PASSED = {"overlay": 57, "sjoin": 114}  # by geopandas 0.12.2 with Debian 12's shapely and rtree
 OTHERS = {
     # A ring that crosses itself: geopandas's buffer(0) loses one half of it, even-odd keeps both.
@@ -40,9 +40,9 @@ def run(folder: pathlib.Path, name: str, words: list[str], program: str | None) 
 
 
 def passed(file: pathlib.Path) -> set[str]:
-    """The tests that have passed."""
+    """The tests that have passed, by class and name."""
     cases = ElementTree.parse(file).getroot().iter("testcase")
-    return {f"{case.get('name')}" for case in cases if not len(case)}
+    return {f"{case.get('classname')}::{case.get('name')}" for case in cases if not len(case)}
 
 
 def compared(folder: pathlib.Path, words: list[str], program: str) -> tuple[set[str], set[str]]:
@@ -56,7 +56,7 @@ def compared(folder: pathlib.Path, words: list[str], program: str) -> tuple[set[
 def test_an_overlay_passes_the_tests_of_geopandas(tmp_path: pathlib.Path) -> None:
     theirs, own = compared(tmp_path, OVERLAY, made.need_outlines())
     assert len(theirs) == PASSED["overlay"]
-    assert theirs - own == OTHERS
+    assert {one.rpartition("::")[2] for one in theirs - own} == OTHERS
 
 
 def test_pairs_pass_the_tests_of_sjoin(tmp_path: pathlib.Path) -> None:

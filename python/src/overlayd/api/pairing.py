@@ -37,7 +37,7 @@ def pairs(left_df: Frame, right_df: Frame, how: str = "inner", predicate: str = 
           rsuffix: str = "right", *, grid_size: GridSize = None, exact: str | None = None, others: str = "raise",
           program: str | None = None) -> Frame:
     """As geopandas.sjoin, with columns more: shared_area, in square units of the frames; shared_area_bound, by how much
-    it may be off; relation. exact names a column for the area as a fraction, exact where its bound is 0.
+    it may be off; relation. exact names a column for the area as a fraction.
 
     Beside sjoin's predicates: shares_area (an area in common, however small), equals. For two polygons within is
     covered_by, and contains is covers. Rows are in the order of the left frame, then of the right one; by how="right"
@@ -50,7 +50,8 @@ def pairs(left_df: Frame, right_df: Frame, how: str = "inner", predicate: str = 
     need_polygons(left_df=left_df, right_df=right_df)
     columns = [AREA, BOUND, RELATION, *([] if exact is None else [exact])]
     need_free(columns, left_df=left_df, right_df=right_df)
-    ask = asked(program, grid_size, unit_of(left_df, right_df), Wants.NOTHING)
+    wants = Wants.NOTHING if exact is None else Wants.OUTLINES | Wants.FRACTIONS
+    ask = asked(program, grid_size, unit_of(left_df, right_df), wants)
     with faults_told(left_df=left_df, right_df=right_df), refusals_told("pairs"):
         rows = answered(pairs_of_maps(column_of(left_df), column_of(right_df), ask), left_df.index, right_df.index)
     own = rows.part(chosen(rows, predicate))
@@ -81,6 +82,6 @@ def table(rows: Overlay, columns: list[str]) -> Frame:
     areas, words = rows.areas(), np.array([one.name.lower() for one in Relation], object)
     found = pd.DataFrame({"_key_left": rows.pairs[:, 0], "_key_right": rows.pairs[:, 1], AREA: areas.doubles(),
                           BOUND: areas.bounds(), RELATION: words[rows.relations()]})
-    for name in columns[3:]:
-        found[name] = pd.Series([areas.exact(place) for place in range(len(areas))], dtype=object)
+    if rows.exact is not None:
+        found[columns[-1]] = [twice / 2 / rows.laid.factor**2 for twice in rows.exact.tolist()]
     return found
