@@ -20,7 +20,7 @@ PACKAGE = HERE.parent / "python" / "src" / "overlayd"
 PLUGIN, PROGRAM, MACHINE = "exactoverlay", "overlay_features", "linux-x86_64"
 PARTS = ("__init__.py", "ending.py", "progress.py", "program.py", "program_files.py", "geometry", "grid", "grid_pass",
          "kernel")
-OF_API = ("__init__.py", "asking.py", "pieces.py")
+OF_API = ("__init__.py", "asking.py", "cells.py", "pieces.py")
 NOT = shutil.ignore_patterns("__pycache__", "ext", "bin")
 
 
