@@ -1,6 +1,7 @@
 """What the tests of the tools have in common: files, a tool's outcome, and the programs that are asked."""
 
 import contextlib
+import importlib.util
 import io
 import os
 import pathlib
@@ -21,6 +22,10 @@ OVERLAY = [sys.executable, str(TOP / "overlay")]
 SOURCES = {**os.environ, "PYTHONPATH": f"{TOP / 'python' / 'src'}:{TOP / 'python'}"}
 SECONDS = 120  # what a program of a test may take before it is ended
 SQUARE = "POLYGON ((0 0, 10 0, 10 10, 0 10, 0 0))"
+
+# The folder qgis/ at the top is found by this name too, but has no module of it.
+QGIS = importlib.util.find_spec("qgis")
+HAS_QGIS = QGIS is not None and QGIS.origin is not None
 
 
 class Programs:

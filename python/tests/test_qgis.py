@@ -2,7 +2,6 @@
 
 from __future__ import annotations
 
-import importlib.util
 import os
 import subprocess
 import sys
@@ -10,13 +9,13 @@ import sys
 import pytest
 
 from . import frames_made as made
-from .common import TOP
+from .common import HAS_QGIS, TOP
 
 SECONDS = 900
 
 
 @pytest.mark.features
-@pytest.mark.skipif(importlib.util.find_spec("qgis") is None, reason="no QGIS: apt-get install qgis python3-qgis")
+@pytest.mark.skipif(not HAS_QGIS, reason="no QGIS: apt-get install qgis python3-qgis")
 def test_the_tests_of_the_plugin_pass() -> None:
     environment = {**os.environ, "OVERLAY_FEATURES": made.need_outlines(), "QT_QPA_PLATFORM": "offscreen"}
     command = [sys.executable, "-m", "pytest", "-q", "-p", "no:cacheprovider", "-c", "/dev/null", "--rootdir",

@@ -2,7 +2,6 @@
 
 from __future__ import annotations
 
-import importlib.util
 import os
 import random
 import signal
@@ -20,7 +19,7 @@ from overlayd.register.registers import Register
 from overlayd.register.watching import Watching
 
 from . import register_works as works
-from .common import OVERLAY, SECONDS, SOURCES, TOP, Programs
+from .common import HAS_QGIS, OVERLAY, SECONDS, SOURCES, TOP, Programs
 from .register_works import ALL, Land, land
 
 pytestmark = pytest.mark.features
@@ -213,7 +212,7 @@ def test_watch_opens_the_file_that_takes_the_place_of_another(tmp_path: Path) ->
     works.check_tables(again)
 
 
-@pytest.mark.skipif(importlib.util.find_spec("qgis") is None, reason="no python3-qgis")
+@pytest.mark.skipif(not HAS_QGIS, reason="no python3-qgis")
 def test_a_register_is_edited_by_qgis(tmp_path: Path) -> None:
     own = land(tmp_path / "land.gpkg", 9)
     words = [sys.executable, "-c", QGIS, f"{own.path}|layername=parcels"]
