@@ -45,6 +45,7 @@ pub mod RowOrder
 pub mod RowCode
 pub mod ValueLemmas
 pub mod SplitLemmas
+pub mod TurnFirst
 pub mod TestLemmas
 pub mod ComingLemmas
 pub mod StayLemmas

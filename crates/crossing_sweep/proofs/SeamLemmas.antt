@@ -6,6 +6,7 @@ use Rattle.std.proofs.lemmas.List.{append-nil}
 use Rattle.std.proofs.lemmas.List.Elements.{All-nil, All-cons, All-append, Contains-push, Contains-append_left}
 use Rattle.std.proofs.Math.ListN.{length-append}
 use Rattle.overlay_terms.specs.Plane.{Point, Segment, same_place}
+use Rattle.overlay_terms.specs.TileLaws.{IsProper}
 use Rattle.overlay_terms.proofs.Lists.{any_from, any_contains, contains_map, Contains-cons_cases, contains_first, none_in_empty, from_map}
 use Rattle.exact_point.specs.Place.{place}
 use Rattle.exact_point.specs.declared.point.HPoint.{HPoint}
@@ -14,7 +15,8 @@ use Rattle.tile_laws.proofs.Ranks.{Told, yes, no, told}
 use Rattle.crossing_sweep.specs.StripInput.{Span}
 use Rattle.crossing_sweep.specs.Queue.{IsQueued}
 use Rattle.crossing_sweep.specs.Ahead.{points_of}
-use Rattle.crossing_sweep.specs.Testing.{IsFound, CrossAhead, AreTested, IsFoundIn, AreSeamsTested}
+use Rattle.crossing_sweep.specs.Leaning.{lean, lean_segment, IsAfter}
+use Rattle.crossing_sweep.specs.Testing.{PassesOver, IsInOrder, IsFound, CrossAhead, AreTested, IsFoundIn, AreSeamsTested}
 use Rattle.crossing_sweep.specs.declared.search.Search.{Search}
 
 only_one : (x y : ℕ) → Contains (x ∷ []) y → x ≡ y
@@ -39,8 +41,8 @@ module _ (strip : Span) (r : Point) (segs : List Segment) where
   no_seams search = record {
     listed = refl;
     kept = λ e c. c;
-    found = λ i d p c inside is. absurd (none_in_empty (i + 1) c);
-    only = λ e c. inl c;
+    found = λ order i d p c inside is. absurd (none_in_empty (i + 1) c);
+    only = λ order e c. inl c;
     more = [];
     tests = sym (append-nil search.tests.items);
     few = omega arith;
@@ -53,8 +55,8 @@ module _ (strip : Span) (r : Point) (segs : List Segment) where
   no_seam seam search none = record {
     listed = refl;
     kept = λ e c. c;
-    found = λ i d p c inside is. absurd (no_way i (only_one seam (i + 1) c) inside none);
-    only = λ e c. inl c;
+    found = λ order i d p c inside is. absurd (no_way i (only_one seam (i + 1) c) inside none);
+    only = λ order e c. inl c;
     more = [];
     tests = sym (append-nil search.tests.items);
     few = omega arith;
@@ -74,10 +76,22 @@ module _ (strip : Span) (r : Point) (segs : List Segment) where
     kept : (e : HPoint × PointName) → Contains old.ahead e → Contains new.ahead e
     kept e c = tested.kept e (subst (λ (es : List (HPoint × PointName)). Contains es e) (sym same_ahead) c)
 
-    found : (i : ℕ) (d : Segment) (p : Point) → Contains ((j + 1) ∷ []) (i + 1) → i + 1 < length segs → CrossAhead strip r (get_or segs i d) (get_or segs (i + 1) d) p → IsQueued (points_of new.ahead) p
-    found i d p c l is =
+    neighbours : IsInOrder r segs → PassesOver r a b
+    neighbours order = record {
+      n = order.n;
+      steep = order.steep;
+      small = order.small;
+      lower = subst IsProper (here_a a) (order.proper j a (omega (arith, inside)));
+      upper = subst IsProper (here_b a) (order.proper (j + 1) a inside);
+      over =
+          subst (λ x. IsAfter (lean_segment order.n x) (lean_segment order.n b) (lean order.n r)) (here_a a)
+          (subst (λ x. IsAfter (lean_segment order.n (get_or segs j a)) (lean_segment order.n x) (lean order.n r)) (here_b a) (order.ordered j (j + 1) a (omega arith) inside));
+    }
+
+    found : IsInOrder r segs → (i : ℕ) (d : Segment) (p : Point) → Contains ((j + 1) ∷ []) (i + 1) → i + 1 < length segs → CrossAhead strip r (get_or segs i d) (get_or segs (i + 1) d) p → IsQueued (points_of new.ahead) p
+    found order i d p c l is =
         let same : i ≡ j = omega (arith, only_one (j + 1) (i + 1) c) in
-        tested.found p
+        tested.found (neighbours order) p
         (subst (λ x. CrossAhead strip r x b p) (here_a d)
         (subst (λ x. CrossAhead strip r (get_or segs j d) x p) (here_b d) (subst (λ k. CrossAhead strip r (get_or segs k d) (get_or segs (k + 1) d) p) same is)))
 
@@ -87,8 +101,8 @@ module _ (strip : Span) (r : Point) (segs : List Segment) where
     among_b : Contains segs b
     among_b = (j + 1, inside, here_b b)
 
-    only : (old.listed ≡ true → Contains new.tests.items (a, b)) → (e : HPoint × PointName) → Contains new.ahead e → Contains old.ahead e ⊎ IsFoundIn strip r segs old.listed new.tests.items e
-    only is_told e c = by (tested.only e c)
+    only : (old.listed ≡ true → Contains new.tests.items (a, b)) → IsInOrder r segs → (e : HPoint × PointName) → Contains new.ahead e → Contains old.ahead e ⊎ IsFoundIn strip r segs old.listed new.tests.items e
+    only is_told order e c = by (tested.only (neighbours order) e c)
       where
         by : Contains mid.ahead e ⊎ IsFound strip r a b e → Contains old.ahead e ⊎ IsFoundIn strip r segs old.listed new.tests.items e
         by (inl h) = inl (subst (λ (es : List (HPoint × PointName)). Contains es e) same_ahead h)
@@ -126,15 +140,15 @@ module _ (strip : Span) (r : Point) (segs : List Segment) where
 
   -- two seams in turn
   module _ (low high : ℕ) (old mid new : Search) (first : AreSeamsTested strip r segs (low ∷ []) old mid) (second : AreSeamsTested strip r segs (high ∷ []) mid new) where
-    found_both : (i : ℕ) (d : Segment) (p : Point) → Contains (low ∷ high ∷ []) (i + 1) → i + 1 < length segs → CrossAhead strip r (get_or segs i d) (get_or segs (i + 1) d) p → IsQueued (points_of new.ahead) p
-    found_both i d p c l is = by (Contains-cons_cases low (high ∷ []) (i + 1) c)
+    found_both : IsInOrder r segs → (i : ℕ) (d : Segment) (p : Point) → Contains (low ∷ high ∷ []) (i + 1) → i + 1 < length segs → CrossAhead strip r (get_or segs i d) (get_or segs (i + 1) d) p → IsQueued (points_of new.ahead) p
+    found_both order i d p c l is = by (Contains-cons_cases low (high ∷ []) (i + 1) c)
       where
         by : (low ≡ i + 1) ⊎ Contains (high ∷ []) (i + 1) → IsQueued (points_of new.ahead) p
-        by (inl e) = still_queued mid.ahead new.ahead second.kept p (first.found i d p (subst (λ x. Contains (low ∷ []) x) e (contains_first low [])) l is)
-        by (inr h) = second.found i d p h l is
+        by (inl e) = still_queued mid.ahead new.ahead second.kept p (first.found order i d p (subst (λ x. Contains (low ∷ []) x) e (contains_first low [])) l is)
+        by (inr h) = second.found order i d p h l is
 
-    only_both : (e : HPoint × PointName) → Contains new.ahead e → Contains old.ahead e ⊎ IsFoundIn strip r segs old.listed new.tests.items e
-    only_both e c = by (second.only e c)
+    only_both : IsInOrder r segs → (e : HPoint × PointName) → Contains new.ahead e → Contains old.ahead e ⊎ IsFoundIn strip r segs old.listed new.tests.items e
+    only_both order e c = by (second.only order e c)
       where
         before : Contains old.ahead e ⊎ IsFoundIn strip r segs old.listed mid.tests.items e → Contains old.ahead e ⊎ IsFoundIn strip r segs old.listed new.tests.items e
         before (inl h) = inl h
@@ -149,7 +163,7 @@ module _ (strip : Span) (r : Point) (segs : List Segment) where
             })
 
         by : Contains mid.ahead e ⊎ IsFoundIn strip r segs mid.listed new.tests.items e → Contains old.ahead e ⊎ IsFoundIn strip r segs old.listed new.tests.items e
-        by (inl h) = before (first.only e h)
+        by (inl h) = before (first.only order e h)
         by (inr f) =
             inr (record { lower = f.lower; upper = f.upper; lower_among = f.lower_among; upper_among = f.upper_among; found = f.found; told = λ g. f.told (first.listed ∙ g) })
 
@@ -171,7 +185,7 @@ module _ (strip : Span) (r : Point) (segs : List Segment) where
   same_seam low high old new same first = record {
     listed = first.listed;
     kept = first.kept;
-    found = λ i d p c. first.found i d p (one i (Contains-cons_cases low (high ∷ []) (i + 1) c));
+    found = λ order i d p c. first.found order i d p (one i (Contains-cons_cases low (high ∷ []) (i + 1) c));
     only = first.only;
     more = first.more;
     tests = first.tests;

@@ -10,7 +10,7 @@ use Rattle.std.proofs.lemmas.List.Folds.{drop_split}
 use Rattle.std.proofs.Math.ListN.{length-append}
 use Rattle.std.proofs.lemmas.List.Elements.{All-map, All-contains, Contains-get_or, Contains-append_cases, Contains-append_left, Contains-append_right}
 use Rattle.std.specs.declared.cmp.Ordering.TheVariants.{Less}
-use Rattle.overlay_terms.specs.Plane.{Point, Segment, whole, point_cmp, same_place}
+use Rattle.overlay_terms.specs.Plane.{Point, Segment, whole, point_cmp, same_place, height_over}
 use Rattle.overlay_terms.specs.Column.{border}
 use Rattle.overlay_terms.specs.Layers.{Marked}
 use Rattle.overlay_terms.specs.TileLaws.{IsProper}
@@ -25,7 +25,8 @@ use Rattle.arrange.specs.Units.{IsUnit}
 use Rattle.arrange.specs.declared.unit.Unit.{Unit}
 use Rattle.arrange.proofs.FoundLemmas.{place_positive}
 use Rattle.crossing_sweep.specs.StripInput.{StripInput, is_in_strip, segments_in, is_in_closed_strip}
-use Rattle.crossing_sweep.specs.Status.{IsStretchOf, SidesFallAlong}
+use Rattle.crossing_sweep.specs.Leaning.{lean, lean_segment, IsAfter}
+use Rattle.crossing_sweep.specs.Status.{IsStretchOf, IsActive, IsStatus, AreOrderedAfter, SidesFallAlong}
 use Rattle.crossing_sweep.specs.NextNode.{IsNextNode}
 use Rattle.crossing_sweep.specs.Queue.{GoesOn, IsUpTo, IsQueued}
 use Rattle.crossing_sweep.specs.Step.{AreStretches, IsSplitAt, IsGrown}
@@ -34,7 +35,7 @@ use Rattle.crossing_sweep.specs.Ahead.{points_of}
 use Rattle.crossing_sweep.specs.Member.{seg_of, units_of, segs_of, ends_after}
 use Rattle.crossing_sweep.specs.Rows.{AreBegun, mask_over, rows_of}
 use Rattle.crossing_sweep.specs.declared.row.Row.{Row}
-use Rattle.crossing_sweep.specs.Testing.{IsFoundIn, CrossAhead, AreSeamsTested, seams_at}
+use Rattle.crossing_sweep.specs.Testing.{IsInOrder, IsFoundIn, CrossAhead, AreSeamsTested, seams_at}
 use Rattle.crossing_sweep.specs.Stepping.{segs_to_come, StandsBefore, IsStepped}
 use Rattle.crossing_sweep.specs.declared.member.Member.{Member}
 use Rattle.crossing_sweep.specs.declared.start.Start.{Start}
@@ -43,10 +44,12 @@ use Rattle.overlay_terms.specs.Tiles.{is_end, is_on_border, is_node}
 use Rattle.tile_laws.proofs.Ranks.{Told, yes, no, told}
 use Rattle.crossing_sweep.proofs.BorderLemmas.{fixed_on_border}
 use Rattle.crossing_sweep.proofs.RightBorder.{not_left, not_last, on_border as on_right}
-use Rattle.overlay_terms.proofs.Pairs.{pairs_first, pairs_map}
+use Rattle.overlay_terms.proofs.Pairs.{all_first, pairs_first, pairs_map}
 use Rattle.crossing_sweep.proofs.StretchLemmas.{stretches_cross}
 use Rattle.crossing_sweep.proofs.UnitStretchLemmas.{units_are_stretches, end_at_right}
-use Rattle.crossing_sweep.proofs.PassLemmas.{all_of, first_is_node}
+use Rattle.crossing_sweep.proofs.PassLemmas.{all_of, first_is_node, entered_holds}
+use Rattle.crossing_sweep.proofs.QueueLemmas.{up_to_next}
+use Rattle.crossing_sweep.proofs.TurnLemmas.{status_turned_round}
 use Rattle.crossing_sweep.proofs.KnownLemmas.{point_small}
 use Rattle.crossing_sweep.proofs.ComingLemmas.{falls, not_met_before, all_enter, all_later}
 use Rattle.crossing_sweep.proofs.StayLemmas.{stay_from, stay_all, stay_turned}
@@ -176,12 +179,53 @@ module _ (input : StripInput) (n : ℤ) (units : List Unit) (q : Point) (at : HP
   stretch_of : (v : Segment) → Contains (segs_of (under ++ stay ++ over)) v → IsStretchOf segments v
   stretch_of v c = All-contains (IsStretchOf segments) unit_segs v stretches.stretches (unit_among v c)
 
+  -- ---- the members after the node are in order
+  old_status : IsStatus n segments q r (u ++ b ++ o)
+  old_status =
+      let all = up_to_next n segments q r (u ++ b ++ o ++ w) stands.steep proper come.full.status_at next in
+      record {
+        from_small = all.from_small;
+        to_small = all.to_small;
+        in_order = all.in_order;
+        clear = all.clear;
+        stretches = all_first (IsStretchOf segments) (u ++ b ++ o) w all.stretches;
+        active = all_first (λ u. IsActive u q r) (u ++ b ++ o) w all.active;
+        ordered = pairs_first (λ a b. IsAfter (lean_segment n a) (lean_segment n b) (lean n q)) (u ++ b ++ o) w all.ordered;
+      }
+
+  stay_among : (v : Segment) → Contains s v → Contains (segs_of (under ++ stay ++ over)) v
+  stay_among v c = subst (λ (us : List Segment). Contains us v) (sym (segs_parts under stay over)) (Contains-append_left (u ++ s) o v (Contains-append_right u s v c))
+
+  stay_level : (v : Segment) → Contains s v → height_over v r ≡ pos 0
+  stay_level v c = by (from v c).0
+    where
+      by : Contains b v ⊎ Contains e v → height_over v r ≡ pos 0
+      by (inl h) = All-contains (λ u. height_over u r ≡ pos 0) b v split.hold h
+      by (inr h) =
+          let met = All-contains (λ u. (z : Point) × IsEntry input.strip u z × IsTrue (same_place z r)) e v enter h in
+          entered_holds input.strip r v (stretch_of v (stay_among v c)).proper hr met.0 met.1 met.2
+
+  sorted_stay : AllPairs (λ a b. pos 0 <ℤ turn_of a b) s
+  sorted_stay = stay_turned n segments unit_segs input.marked input.strip q r u b o e t (r ∷ keys) stands.steep stretches are_units come next split enter once s moved sorted
+
+  in_order : IsInOrder r (segs_of (under ++ stay ++ over))
+  in_order = record {
+    n = n;
+    steep = stands.steep;
+    small = next.small;
+    proper = all_of IsProper (segs_of (under ++ stay ++ over)) (λ v c. (stretch_of v c).proper);
+    ordered =
+        subst (λ (us : List Segment). AreOrderedAfter n r us) (sym (segs_parts under stay over))
+        (status_turned_round n segments q r u b o s stands.steep old_status split.passes_under split.passes_over
+        (record { stretches = all_of (IsStretchOf segments) s (λ v c. stretch_of v (stay_among v c)); hold = all_of (λ v. height_over v r ≡ pos 0) s stay_level; turned = sorted_stay }));
+  }
+
   -- ---- the places found ahead
   first : IsAhead segments input.strip q r
   first = All-contains (IsAhead segments input.strip q) (r ∷ keys) r come.ahead (contains_first r keys)
 
   ahead : All (IsAhead segments input.strip r) (points_of new.ahead)
-  ahead = All-map (IsAhead segments input.strip r) (λ (d : HPoint × PointName). place d.0) new.ahead (all_of (λ (d : HPoint × PointName). IsAhead segments input.strip r (place d.0)) new.ahead (λ d c. by d (tested.only d c)))
+  ahead = All-map (IsAhead segments input.strip r) (λ (d : HPoint × PointName). place d.0) new.ahead (all_of (λ (d : HPoint × PointName). IsAhead segments input.strip r (place d.0)) new.ahead (λ d c. by d (tested.only in_order d c)))
     where
       by : (d : HPoint × PointName) → Contains old.ahead d ⊎ IsFoundIn input.strip r (segs_of (under ++ stay ++ over)) old.listed new.tests.items d → IsAhead segments input.strip r (place d.0)
       by d (inl c) =
@@ -266,7 +310,7 @@ module _ (input : StripInput) (n : ℤ) (units : List Unit) (q : Point) (at : HP
       found =
           subst (λ (us : List Segment).
           (i : ℕ) (d : Segment) (p : Point) → Contains seams (i + 1) → i + 1 < length us → CrossAhead input.strip r (get_or us i d) (get_or us (i + 1) d) p → IsQueued (points_of new.ahead) p)
-          (segs_parts under stay over) both.found
+          (segs_parts under stay over) (both.found in_order)
 
       seam : (i : ℕ) → (i + 1 ≡ length u) ⊎ (i + 1 ≡ length (u ++ s)) → Contains seams (i + 1)
       seam i (inl f) = subst (λ x. Contains seams x) (sym (f ∙ length-map under seg_of)) (contains_first (length under) (length (under ++ stay) ∷ []))
@@ -309,7 +353,7 @@ module _ (input : StripInput) (n : ℤ) (units : List Unit) (q : Point) (at : HP
     remain = remain;
     stay_from = stay_from n segments unit_segs input.marked input.strip q r u b o e t (r ∷ keys) stands.steep stretches are_units come next split enter once s moved;
     stay_all = stay_all n segments unit_segs input.marked input.strip q r u b o e t (r ∷ keys) stands.steep stretches are_units come next split enter once s moved;
-    turned = stay_turned n segments unit_segs input.marked input.strip q r u b o e t (r ∷ keys) stands.steep stretches are_units come next split enter once s moved sorted;
+    turned = sorted_stay;
     least = least;
     grown = grown;
     ahead = ahead;

@@ -30,14 +30,15 @@ use Rattle.exact_point.proofs.SameNodes.{same_back}
 use Rattle.arrange.specs.Units.{IsUnit}
 use Rattle.arrange.specs.declared.unit.Unit.{Unit}
 use Rattle.crossing_sweep.specs.StripInput.{StripInput, IsStripInput, AreStripSome, IsStripTile, segments_in}
-use Rattle.crossing_sweep.specs.Leaning.{IsSteep, IsSmall}
+use Rattle.crossing_sweep.specs.Leaning.{lean, lean_segment, IsSteep, IsSmall, IsAfter}
 use Rattle.crossing_sweep.specs.Queue.{IsQueued}
-use Rattle.crossing_sweep.specs.Passing.{HasCome, IsEntry, IsStepTo, IsTaken}
+use Rattle.crossing_sweep.specs.Passing.{waiting, HasCome, IsEntry, IsStepTo, IsTaken}
 use Rattle.crossing_sweep.specs.Beginning.{foot}
 use Rattle.crossing_sweep.specs.Ahead.{points_of, AreKnownPlaces}
 use Rattle.crossing_sweep.specs.Start.{AreStarts}
 use Rattle.crossing_sweep.specs.Member.{seg_of, segs_of}
-use Rattle.crossing_sweep.specs.Testing.{IsFoundIn, seams_at}
+use Rattle.crossing_sweep.specs.Testing.{IsInOrder, IsFoundIn, seams_at}
+use Rattle.crossing_sweep.specs.Status.{IsStretchOf}
 use Rattle.crossing_sweep.specs.Stepping.{segs_to_come, StandsBefore, IsStepped}
 use Rattle.crossing_sweep.specs.PassState.{nodes_max}
 use Rattle.crossing_sweep.specs.RowLaws.{AreAll}
@@ -51,7 +52,7 @@ use Rattle.crossing_sweep.specs.declared.member.Member.{Member}
 use Rattle.crossing_sweep.specs.declared.start.Start.{Start}
 use Rattle.crossing_sweep.specs.declared.row.Row.{Row}
 use Rattle.crossing_sweep.specs.declared.search.Search.{Search}
-use Rattle.overlay_terms.proofs.Pairs.{all_first, all_second, pairs_second}
+use Rattle.overlay_terms.proofs.Pairs.{all_first, all_second, pairs_first, pairs_second}
 use Rattle.crossing_sweep.proofs.KnownLemmas.{point_small}
 use Rattle.crossing_sweep.proofs.UnitStretchLemmas.{units_are_stretches}
 use Rattle.crossing_sweep.proofs.PassLemmas.{pass_goes_on, all_of}
@@ -224,6 +225,17 @@ module _ (input : StripInput) (valid : IsStripInput input) (status after : List 
       let Q : Bool → Type 0 = λ (l : Bool). IsCaused input l (old.tests.items ++ stepped.tested.more) p in
       subst P (sym stepped.tested.tests) (subst Q (sym stepped.tested.listed) (still_caused input old.listed old.tests.items stepped.tested.more p h))
 
+  in_order : IsInOrder (place at) (segs_of after)
+  in_order =
+      let status = come_after.full.status_at in
+      record {
+        n = way.n;
+        steep = way.steep;
+        small = status.small;
+        proper = λ i d l. (all_first (IsStretchOf (segments_in input)) (segs_of after) (waiting input.strip (segs_to_come rest)) status.stretches i d l).proper;
+        ordered = pairs_first (λ a b. IsAfter (lean_segment way.n a) (lean_segment way.n b) (lean way.n (place at))) (segs_of after) (waiting input.strip (segs_to_come rest)) status.ordered;
+      }
+
   new_key : (x : HPoint × PointName) → Contains old.ahead x ⊎ IsFoundIn input.strip (place at) (segs_of after) old.listed new.tests.items x → IsKey input new.listed new.tests.items x
   new_key x (inl c) =
       let is = All-contains (IsKey input old.listed old.tests.items) old.ahead x (All-tail (IsKey input old.listed old.tests.items) (at, name) old.ahead way.keys) c in
@@ -281,7 +293,7 @@ module _ (input : StripInput) (valid : IsStripInput input) (status after : List 
     few = few;
     pairs = pairs;
     unlisted = unlisted;
-    keys = all_of (IsKey input new.listed new.tests.items) new.ahead (λ x c. new_key x (stepped.tested.only x c));
+    keys = all_of (IsKey input new.listed new.tests.items) new.ahead (λ x c. new_key x (stepped.tested.only in_order x c));
     causes =
         let P : List Point → Type 0 = λ l. All (IsCaused input new.listed new.tests.items) l in
         subst P passed_there (All-push (IsCaused input new.listed new.tests.items) (map place_of names) (place at) (λ i d l. still (get_or (map place_of names) i d) (way.causes i d l)) (still (place at) key.caused));

@@ -92,8 +92,7 @@ impl Progress {
         label(input, values, stay, under, begin);
         let top = low + stay.len();
         replace(&mut self.status, low, high, stay)?;
-        self.search
-            .test_new(input.strip(), node.at, &self.status, low, top)?;
+        self.search.test_new(input.strip(), &self.status, low, top)?;
         self.entered += entered;
         self.hint = top;
         Ok(())

@@ -1,16 +1,13 @@
 //! Tests of neighbours of a status.
-ghost use Rattle.std.specs.Prelude.{◌≡◌, ◌≤◌, ◌&&◌, ◌++◌, [], ◌∷◌, true, false, OnOk};
-ghost use Rattle.std.specs.Ordering.{is_lt};
-ghost use Rattle.overlay_terms.specs.Plane.{point_cmp};
-ghost use Rattle.exact_point.specs.Place.{place};
-ghost use Rattle.crossing_sweep.specs.StripInput.{is_in_closed_strip};
+ghost use Rattle.std.specs.Prelude.{◌≡◌, ◌≤◌, ◌++◌, [], ◌∷◌, true, false, OnOk};
+ghost use Rattle.overlay_terms.specs.Plane.{Point};
 ghost use Rattle.crossing_sweep.specs.Member.{segs_of};
 ghost use Rattle.crossing_sweep.specs.Testing.{AreTested, AreSeamsTested, seams_at};
 
 use crate::ahead::Ahead;
 use crate::member::Member;
 use crate::strip::Strip;
-use exact_point::{HPoint, NearPoint, PointName, near_cross_of};
+use exact_point::{PointName, direction_cmp, near_cross_of};
 use plane_base::Seg;
 use std::alloc::AllocError;
 
@@ -43,11 +40,11 @@ impl Search {
     pub(crate) fn test_at(
         &mut self,
         strip: Strip,
-        at: NearPoint,
         status: &[Member],
         seam: usize,
     ) -> Result<(), AllocError>
-        ensures { OnOk result (AreSeamsTested strip (place at) (segs_of status.now) (seam ∷ []) self.old self.new) }
+        ensures { OnOk result
+            ((r : Point) → AreSeamsTested strip r (segs_of status.now) (seam ∷ []) self.old self.new) }
     {
         if seam == 0 {
             return Ok(());
@@ -58,7 +55,7 @@ impl Search {
         let lower = status[seam - 1].unit.seg;
         let upper = status[seam].unit.seg;
         self.list(lower, upper)?;
-        test_pair(&mut self.ahead, strip, at, &lower, &upper)?;
+        test_pair(&mut self.ahead, strip, &lower, &upper)?;
         Ok(())
     }
 
@@ -66,53 +63,44 @@ impl Search {
     pub(crate) fn test_new(
         &mut self,
         strip: Strip,
-        at: NearPoint,
         status: &[Member],
         low: usize,
         high: usize,
     ) -> Result<(), AllocError>
         requires in_order { low ≤ high }
         ensures { OnOk result
-            (AreSeamsTested strip (place at) (segs_of status.now) (seams_at true low high) self.old self.new) }
+            ((r : Point) → AreSeamsTested strip r (segs_of status.now) (seams_at true low high) self.old self.new) }
     {
-        self.test_at(strip, at, status, low)?;
+        self.test_at(strip, status, low)?;
         if low < high {
-            self.test_at(strip, at, status, high)?;
+            self.test_at(strip, status, high)?;
         }
         Ok(())
     }
 }
 
-/// Tests two neighbours: where they cross after a place, in the closed strip, that place is found, unless both end
-/// there.
+/// Tests two neighbours, the upper one over the lower one just after the node: where they cross ahead, in the closed
+/// strip, that place is found, unless both end there.
 pub(crate) fn test_pair(
     ahead: &mut Ahead,
     strip: Strip,
-    at: NearPoint,
     lower: &Seg,
     upper: &Seg,
 ) -> Result<(), AllocError>
-    ensures { OnOk result (AreTested strip (place at) lower.now upper.now ahead.old ahead.new) }
+    ensures { OnOk result ((r : Point) → AreTested strip r lower.now upper.now ahead.old ahead.new) }
 {
     // Where both end at one point, they cross nowhere else, and all ends ahead are known.
     if lower.right() == upper.right() {
         return Ok(());
     }
+    // They cross after the node only where the upper one turns down to the lower one, and then nowhere before it.
+    if !direction_cmp(lower, upper).is_gt() {
+        return Ok(());
+    }
     if let Some(crossing) = near_cross_of(lower, upper) {
-        if is_ahead(strip, at, &crossing.point()) {
+        if strip.holds_closed(&crossing.point()) {
             ahead.add(crossing, PointName::Cross(*lower, *upper))?;
         }
     }
     Ok(())
-}
-
-/// Whether a place comes after another, in a closed strip.
-fn is_ahead(strip: Strip, at: NearPoint, other: &HPoint) -> bool
-    ensures { result ≡ (is_lt (point_cmp (place at) (place other.now)) && is_in_closed_strip strip (place other.now)) }
-{
-    // A place beyond the borders is found by two products, the order of two places by up to four.
-    if !strip.holds_closed(other) {
-        return false;
-    }
-    at.point() < *other
 }

@@ -15,6 +15,10 @@ pub(crate) fn floor(x: i128, w: i128) -> i64
     ensures value { IsFloor result x w }
     ensures small { IsWithin coordinate_max result }
 {
+    // Most points that are asked for are whole, and no division is made for these.
+    if w == 1 {
+        return whole(x);
+    }
     let steps = whole_part(from_edge(x, w), w as u128);
     steps as i64 - COORD_MAX
 }
@@ -28,6 +32,14 @@ pub(crate) fn ceil(x: i128, w: i128) -> i64
     ensures { IsCeil result x w }
 {
     -floor(-x, w)
+}
+
+/// A coordinate over the denominator 1.
+fn whole(x: i128) -> i64
+    requires { IsWithin coordinate_max x }
+    ensures { result ≡ x }
+{
+    x as i64
 }
 
 /// How far x lies right of the plane's left edge, over the denominator w.
