@@ -10,6 +10,7 @@ use layer_book::command::Command;
 use layer_expr::name::Name;
 use plane_base::Column;
 use std::marker::Model;
+use store_receipt::receipt::Receipt;
 use tile_build::Tile;
 use versions::Version;
 
@@ -56,8 +57,8 @@ pub enum Cause<'a> {
     Accepted(u64, &'a [Command]),
     /// A tile of a layer and column is kept.
     Kept(&'a Name, &'a Column, &'a Tile),
-    /// A number is durable.
-    Durable(u64),
+    /// A number is durable, for which a store gave this receipt.
+    Durable(&'a Receipt),
 }
 
 /// What a step asks the history for.

@@ -4,7 +4,7 @@ ghost use mathlib.Core.List.{IsPrefix};
 ghost use Rattle.overlay_terms.specs.Commands.{version_max};
 ghost use Rattle.overlay_terms.specs.Histories.{Follows};
 ghost use Rattle.book_history.specs.Logs.{IsLog, entry, no_event, newest_in};
-ghost use Rattle.book_history.specs.Causes.{event_of};
+ghost use Rattle.book_history.specs.Causes.{event_of, IsAskedFor, IsOwnReceipt};
 ghost use Rattle.book_history.specs.Rules.{head_of};
 ghost use Rattle.book_history.specs.Reporting.{MayBeReported};
 
@@ -78,10 +78,14 @@ impl<'a> Plain<Ask<'a>, Entry, u64> for Add {
 pub trait BookName {
     ghost use Rattle.std.specs.Prelude.{ℕ, List};
     ghost use Rattle.logbook.specs.Pages.{Book};
+    ghost use Rattle.overlay_terms.specs.Batches as batches;
     ghost use Rattle.overlay_terms.specs.Histories as terms;
     ghost use Rattle.book_history.specs.declared.fault.ReportedFault as reported;
 
     ghost book: { Book };
+
+    /// The name of its store, of which alone what is reported durable has a receipt (`serve`: the engine's own).
+    ghost store: { Book };
 
     /// What to prove of a log and a number before that is reported; who opens the
     /// book picks it (`serve`: `IsStoredOf`).
@@ -90,6 +94,10 @@ pub trait BookName {
     /// What to prove of a log and a fault before it is reported that the store failed so (`serve`: `IsFailedOf`).
     ghost failed: { List terms.Entry → reported.ReportedFault → Type 0 };
 
+    /// What to prove of a session's number and of commands before they are accepted of it: that it was asked for them
+    /// (`serve`: `IsAskedAt`).
+    ghost asked: { ℕ → batches.Batch → Type 0 };
+
     /// How many sessions it may be begun for: who begins it for more cannot prove that it has them.
     ghost seats: { ℕ };
 }
@@ -97,10 +105,15 @@ pub trait BookName {
 impl BookName for Brand {
     ghost book = { record { number = 0; log_name = 0; cells_name = 0 } };
 
+    ghost store = { record { number = 0; log_name = 0; cells_name = 0 } };
+
     // Where a call picks nothing, nothing is stored, and no store failed.
     ghost stored = { λ log number. ⊥ };
 
     ghost failed = { λ log fault. ⊥ };
+
+    // Nor was anything asked for.
+    ghost asked = { λ session batch. ⊥ };
 
     ghost seats = { 4 };
 }
@@ -207,7 +220,7 @@ impl SeenLog {
     }
 
     /// Adds an entry to all that was seen, and says whether it did. An entry by which another number is durable may be
-    /// added where that was stored, and a call that never returns owes this too.
+    /// added where that was stored, by a receipt of the book's own store, and a call that never returns owes this too.
     pub fn add<J: BookName>(
         &mut self,
         head: &LogWord<J>,
@@ -219,6 +232,8 @@ impl SeenLog {
         requires follows { Follows (newest_in self.old.log) (event_of cause) version.now }
         requires reported { (version.now.durable ≡ (newest_in self.old.log).durable)
             ⊎ MayBeReported J.stored self.old.log version.now.durable }
+        requires asked { IsAskedFor J.asked cause }
+        requires own { IsOwnReceipt J.store cause }
         ensures { MatchBool result
             (self.new ≡ record {
               book = self.old.book;

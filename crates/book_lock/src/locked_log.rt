@@ -6,7 +6,7 @@ ghost use mathlib.Core.List.{IsPrefix};
 ghost use Rattle.left_right.specs.Sides.{view};
 ghost use Rattle.overlay_terms.specs.Commands.{version_max};
 ghost use Rattle.overlay_terms.specs.Histories.{commands_of, Follows};
-ghost use Rattle.book_history.specs.Causes.{event_of, HasSeat};
+ghost use Rattle.book_history.specs.Causes.{event_of, HasSeat, IsAskedFor, IsOwnReceipt};
 ghost use Rattle.book_history.specs.Fault.{no_memory};
 ghost use Rattle.book_history.specs.Logs.{entry, no_event, newest_in, IsLog};
 ghost use Rattle.book_history.specs.Rules.{head_of};
@@ -185,6 +185,8 @@ impl<J: BookName, R: Wait + Drop> LockedLog<J, R> {
         requires seat { HasSeat cause }
         requires reported { ((arc_value version).durable ≡ (newest_in self.old).durable)
             ⊎ MayBeReported J.stored self.old (arc_value version).durable }
+        requires asked { IsAskedFor J.asked cause }
+        requires own { IsOwnReceipt J.store cause }
         ensures ok { IfOk result (λ _. self.new ≡ self.old ++ entry (event_of cause.entry) (arc_value version) ∷ []) }
         ensures room { IfOk result (λ _. length self.old < version_max) }
         ensures err { IfErr result (λ fault. (fault ≡ BookFault.Gone) × (self.new ≡ self.old)) }

@@ -15,21 +15,23 @@ use book_history::fault::BookFault;
 use book_history::seen_log::BookName;
 use std::alloc::Global;
 use std::sync::Wait;
+use store_receipt::receipt::Receipt;
 
 impl<J: BookName, R: Wait + Drop> LockedLog<J, R> {
-    /// Reports a number durable for the reporter of the book, who has seen each number that was: the one entry that this
-    /// adds, or nothing. It answers the durable number then, and the reporter has seen it. The memory for the entry's version
-    /// is what was taken ahead for it, where there was some.
+    /// Reports the number of a receipt of the book's own store durable for the reporter of the book, who has seen each
+    /// number that was: the one entry that this adds, or nothing. It answers the durable number then, and the reporter has
+    /// seen it. The memory for the entry's version is what was taken ahead for it, where there was some.
     pub fn report(
         &mut self,
         alloc: Global,
         room: &mut Room,
         me: &mut Reporter,
-        number: u64,
+        receipt: &Receipt,
     ) -> Result<u64, BookFault>
         requires book { me.old.book ≡ J.book }
-        requires stored { J.stored me.old.log number }
-        ensures ok { IfOk result (λ durable. IsReportedIn self.old number self.new
+        requires own { receipt.now.store ≡ J.store }
+        requires stored { J.stored me.old.log receipt.now.number }
+        ensures ok { IfOk result (λ durable. IsReportedIn self.old receipt.now.number self.new
             × ((newest_in self.new).durable ≡ durable)) }
         ensures seen { IfOk result (λ _. HasHeard self.old me.old
             × (me.new ≡ record { book = me.old.book; log = self.new; given = me.old.given })
@@ -43,25 +45,27 @@ impl<J: BookName, R: Wait + Drop> LockedLog<J, R> {
         if !self.has_heard(me) {
             return Err(BookFault::Gone);
         }
-        let durable = self.raise(alloc, room, number)?;
+        let durable = self.raise(alloc, room, receipt)?;
         me.move_on(&self.last().seen_log, durable, given);
         Ok(durable)
     }
 
     // Adds the entry of a number that is durable, where it is news.
-    fn raise(&mut self, alloc: Global, room: &mut Room, number: u64) -> Result<u64, BookFault>
-        requires stored { MayBeReported J.stored self.old number }
-        ensures ok { IfOk result (λ durable. IsReportedIn self.old number self.new
+    fn raise(&mut self, alloc: Global, room: &mut Room, receipt: &Receipt) -> Result<u64, BookFault>
+        requires own { receipt.now.store ≡ J.store }
+        requires stored { MayBeReported J.stored self.old receipt.now.number }
+        ensures ok { IfOk result (λ durable. IsReportedIn self.old receipt.now.number self.new
             × ((newest_in self.new).durable ≡ durable)) }
         ensures err { IfErr result (λ fault. (self.new ≡ self.old) × ((fault ≡ no_memory) ⊎ (fault ≡ BookFault.Gone))) }
     {
+        let number = receipt.number();
         let now = &self.last().version;
         let durable = now.durable();
         if number <= durable || now.number() < number {
             return Ok(durable);
         }
         let version = reported_version(alloc, room, now, number)?;
-        self.add(Cause::Durable(number), version)?;
+        self.add(Cause::Durable(receipt), version)?;
         Ok(number)
     }
 }

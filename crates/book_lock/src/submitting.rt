@@ -20,6 +20,7 @@ impl<J: BookName, R: Wait + Drop> LockedLog<J, R> {
         change: &C,
     ) -> Result<u64, Refused<C::Fault>>
         requires book { me.old.book ≡ J.book }
+        requires asked { J.asked me.old.session (C.batch change.now) }
         ensures ok { IfOk result (IsAcceptedIn self.old me.old (C.batch change.now) self.new me.new) }
         ensures err { IfErr result (λ refused. (self.new ≡ self.old)
             × IsRefusedIn self.old me.old (C.refuses change.now) false refused me.new) }

@@ -17,6 +17,7 @@ use root_store::commit::Commit;
 use root_store::phase::{Phase, Progress};
 use root_store::shut::Shut;
 use std::alloc::Global;
+use store_receipt::receipt::Receipt;
 use versions::Version;
 
 /// A store to which versions are written.
@@ -47,6 +48,14 @@ impl<D: Disk> Flusher<D> {
         self.commit.version()
     }
 
+    /// That this store holds the version of its live root.
+    pub fn receipt(&self) -> Receipt
+        ensures store { result.store ≡ self.now.commit.name }
+        ensures number { result.number ≡ self.now.commit.root.version }
+    {
+        self.commit.receipt()
+    }
+
     /// Begins the commit of a version. It makes no device call, and a refusal changes nothing.
     pub fn begin(&mut self, alloc: Global, version: &Version) -> Result<(), StoreFault>
         requires { is_busy self.old.commit.phase ≡ false }
@@ -65,6 +74,7 @@ impl<D: Disk> Flusher<D> {
         // So many calls lead to Done.
         ensures calls { OnOk result (calls_left self.new.commit ≡ calls_of self.old.commit version.now) }
         ensures disk { self.new.commit.disk ≡ self.old.commit.disk }
+        ensures name { self.new.commit.name ≡ self.old.commit.name }
         ensures err { OnErr result (self.new ≡ self.old) }
         ensures failed { self.old.commit.phase ≡ Phase.Failed → result ≡ Err StoreFault.Failed }
         ensures limit { self.old.commit.phase ≡ Phase.Idle → sequence_max ≤ self.old.commit.root.sequence
@@ -107,6 +117,7 @@ impl<D: Disk> Flusher<D> {
         // So many calls lead to Done.
         ensures calls { OnOk result (calls_left self.new.commit ≡ calls_of self.old.commit version.now) }
         ensures disk { self.new.commit.disk ≡ self.old.commit.disk }
+        ensures name { self.new.commit.name ≡ self.old.commit.name }
         ensures err { OnErr result (self.new ≡ self.old) }
         ensures failed { self.old.commit.phase ≡ Phase.Failed → result ≡ Err StoreFault.Failed }
         ensures limit { self.old.commit.phase ≡ Phase.Idle → sequence_max ≤ self.old.commit.root.sequence
@@ -147,6 +158,8 @@ impl<D: Disk> Flusher<D> {
         ensures same_records { OnErr result (KeepsRecords self.old.commit self.new.commit) }
         ensures stored { self.new.commit.root.version ≡ stored_after result self.old.commit.root.version }
         ensures honest { D.is_honest self.new.commit.disk ↔ D.is_honest self.old.commit.disk }
+        // It stays the store that it is.
+        ensures name { self.new.commit.name ≡ self.old.commit.name }
         // The blocks that the file may have stay as many.
         ensures blocks { (limit : ℕ) → KeepsTo limit self.old.commit → KeepsTo limit self.new.commit }
         // One device call fewer is left, until Done.

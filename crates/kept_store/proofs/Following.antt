@@ -1,5 +1,5 @@
 -- How a store is followed over the calls of its keeper.
-use Rattle.std.proofs.Common.{ℕ, List, arith}
+use Rattle.std.proofs.Common.{◌≡◌, ◌∙◌, ℕ, List, arith}
 use Rattle.disk_model.specs.declared.disk.Disk.{Ghosts}
 use Rattle.disk_model.proofs.Runs.{joined, widened}
 use Rattle.overlay_terms.specs.Histories.{Entry, History}
@@ -10,14 +10,15 @@ use Rattle.kept_store.specs.Storing.{IsStoreOf, Flushes, KeepsReported, IsFollow
 use Rattle.kept_store.proofs.Histories.{begins_self, begins_trans, file_more}
 
 module _ {D : Type 0} (g : Ghosts D) where
-  pub by_run : (was now : History) (s t : Flusher D g) → Flushes g was s now t → IsFollowed g was s now t
-  by_run was now s t run = record { goes_on = run.goes_on; store = run.store; no_less = run.no_less; moments = run.moments }
+  pub by_run : (was now : History) (s t : Flusher D g) → t.commit.name ≡ s.commit.name → Flushes g was s now t → IsFollowed g was s now t
+  by_run was now s t same run = record { same = same; goes_on = run.goes_on; store = run.store; no_less = run.no_less; moments = run.moments }
 
-  pub by_call : (was now : History) (s t : Flusher D g) → KeepsReported g was s now t → IsFollowed g was s now t
-  by_call was now s t call = record { goes_on = call.goes_on; store = call.store; no_less = call.no_less; moments = call.moments }
+  pub by_call : (was now : History) (s t : Flusher D g) → t.commit.name ≡ s.commit.name → KeepsReported g was s now t → IsFollowed g was s now t
+  by_call was now s t same call = record { same = same; goes_on = call.goes_on; store = call.store; no_less = call.no_less; moments = call.moments }
 
   pub further : (a b c : History) (s t u : Flusher D g) → IsFollowed g a s b t → IsFollowed g b t c u → IsFollowed g a s c u
   further a b c s t u first second = record {
+    same = second.same ∙ first.same;
     goes_on = begins_trans a b c first.goes_on second.goes_on;
     store = second.store;
     no_less = omega (arith, first.no_less, second.no_less);

@@ -86,15 +86,17 @@ abbrev pub Keeps : {D : Type 0} (g : Ghosts D) → Heard → Flusher D g → Hea
 Keeps g was old now new =
     IsStoreOf g (history_of was.log) old → KeepsReported g (history_of was.log) old (history_of now.log) new
 
--- a store was followed: its history went on, it is one of it, stores nothing older, and a crash since left no older version
+-- a store was followed: it is the same store, its history went on, it is one of it, stores nothing older, and a crash since
+-- left no older version
 pub record IsFollowed {D : Type 0} (g : Ghosts D) (was : History) (old : Flusher D g) (now : History) (new : Flusher D g)
     : Type 0 where
+  pub same : new.commit.name ≡ old.commit.name
   pub goes_on : BeginsWith now was
   pub store : IsStoreOf g now new
   pub no_less : old.commit.root.version ≤ new.commit.root.version
   pub moments : LeavesOnly g old.commit.disk new.commit.disk (IsFileIn now old.commit.root.version)
 
--- a number is stored of a log: a store to which the first one was followed by that log holds it (not said: the run's own)
+-- a number is stored of a log: the first store, followed to that log, holds it
 pub record IsStored {D : Type 0} (g : Ghosts D) (was : History) (old : Flusher D g) (log : List Entry) (number : ℕ) : Type 0 where
   pub store : Flusher D g
   pub followed : IsFollowed g was old (history_of log) store

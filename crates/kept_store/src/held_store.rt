@@ -22,6 +22,7 @@ use flush_core::flusher::Flusher;
 use root_store::phase::Progress;
 use root_store::shut::Shut;
 use std::alloc::Global;
+use store_receipt::receipt::Receipt;
 use version_book::reporter::Reporter;
 use version_book::seen_log::SeenLog;
 use versions::Version;
@@ -74,6 +75,14 @@ impl<D: Disk> HeldStore<D> {
         self.flusher.stored()
     }
 
+    /// That this store holds the version that is stored.
+    pub fn receipt(&self) -> Receipt
+        ensures store { result.store ≡ self.now.flusher.commit.name }
+        ensures number { result.number ≡ self.now.flusher.commit.root.version }
+    {
+        self.flusher.receipt()
+    }
+
     /// Begins the commit of the newest version that the reporter of its own book has seen: of no other version, and for
     /// no other book. It makes no device call. Its tiles are compared with those of the live root, unless they are known
     /// to be these.
@@ -89,6 +98,7 @@ impl<D: Disk> HeldStore<D> {
         requires idle { is_busy self.old.flusher.commit.phase ≡ false }
         ensures keeps { Keeps D.Disk reporter.now self.old.flusher reporter.now self.new.flusher }
         ensures stored { self.new.flusher.commit.root.version ≡ self.old.flusher.commit.root.version }
+        ensures name { self.new.flusher.commit.name ≡ self.old.flusher.commit.name }
         ensures same { self.new.seen_log ≡ self.old.seen_log }
         ensures err { OnErr result (self.new ≡ self.old) }
         ensures errors { IfErr result
@@ -125,6 +135,8 @@ impl<D: Disk> HeldStore<D> {
             → KeepsReported D.Disk history self.old.flusher history self.new.flusher }
         ensures stored { self.new.flusher.commit.root.version
             ≡ stored_after result self.old.flusher.commit.root.version }
+        // It stays the store that it is.
+        ensures name { self.new.flusher.commit.name ≡ self.old.flusher.commit.name }
         ensures counted { IfOk result
             (λ p. Counts p (calls_left self.old.flusher.commit) (calls_left self.new.flusher.commit)) }
         ensures failed { OnErr result (self.new.flusher.commit.phase ≡ phases.Failed) }

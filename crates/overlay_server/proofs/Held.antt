@@ -49,7 +49,7 @@ module _ {D : Type 0} (g : Ghosts D) (now : HasOnlyNow g) (start : Version) (sto
         before = on;
         held = old.commit.root.version;
         no_less = omega (arith, first, begins, reported);
-        stored = record { store = old; followed = by_run g h h old old (begun g h old (λ c left. now old.commit.disk c is.honest left) is); at = refl };
+        stored = record { store = old; followed = by_run g h h old old refl (begun g h old (λ c left. now old.commit.disk c is.honest left) is); at = refl };
       }
 
   later_held : (old : Flusher D g) (was log : List Entry) (history : History) → BeginsWith history (history_of (first_log start)) → history_of log ≡ history → IsPrefix was log

@@ -1,4 +1,5 @@
 pub mod Alone
+mod Asked
 pub mod Counts
 mod Disks
 pub mod Durable

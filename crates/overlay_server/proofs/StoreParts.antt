@@ -15,6 +15,7 @@ use Rattle.book_history.specs.declared.fault.ReportedFault.{ReportedFault}
 use Rattle.book_history.proofs.Chains.{begins_with, is_history}
 use Rattle.book_lock.specs.Heard.{HasHeard}
 use Rattle.kept_store.specs.Among.{IsFileIn}
+use Rattle.kept_store.specs.Beginning.{name_in}
 use Rattle.kept_store.specs.Failing.{HoldsOfFailed}
 use Rattle.kept_store.specs.Storing.{IsStoreOf, HoldsOfStored}
 use Rattle.store_flushing.specs.Stores.{flusher_in, reporter_of, notes_by}
@@ -51,6 +52,7 @@ module _ {D : Type 0} (g : Ghosts D) where
 
   flushed_twice : (a b c : Store D g) → AreFlushed g a b → AreFlushed g b c → AreFlushed g a c
   flushed_twice (Kept a) (Kept b) (Kept c) first second = record {
+    same = second.same ∙ first.same;
     flushes = λ is. let one = first.flushes is in
         then g (history_of a.reporter.log) (history_of b.reporter.log) (history_of c.reporter.log) a.held.flusher b.held.flusher c.held.flusher one (second.flushes one.store);
     rests = second.rests;
@@ -76,28 +78,30 @@ module _ {D : Type 0} (g : Ghosts D) where
   FailsAs failed start store = (log : List Entry) (fault : ReportedFault) → failed log fault ↔ IsFailedOf g start store log fault
 
   -- what holds of all that the store of a book comes to hold, and of all for which it fails
-  pub holds_first : (stored : List Entry → ℕ → Type 0) (failed : List Entry → ReportedFault → Type 0) (start : Version) (store : Store D g) → (reporter_of store).log ≡ first_log start
-      → CountsAs stored start (flusher_in store) → FailsAs failed start (flusher_in store) → HoldsOfStore g stored failed store
-  holds_first stored failed start (Kept k) first same fails = (
+  pub holds_first : (own : Book) (stored : List Entry → ℕ → Type 0) (failed : List Entry → ReportedFault → Type 0) (start : Version) (store : Store D g) → (reporter_of store).log ≡ first_log start
+      → own ≡ name_in (flusher_in store) → CountsAs stored start (flusher_in store) → FailsAs failed start (flusher_in store) → HoldsOfStore g own stored failed store
+  holds_first own stored failed start (Kept k) first mine same fails = (
     subst (λ (es : List Entry). HoldsOfStored g stored (history_of es) k.held.flusher) (sym first)
         (λ log h on. (same log h.commit.root.version).1 (λ is. record { store = h; followed = on is; at = refl })),
     subst (λ (es : List Entry). HoldsOfFailed g failed (history_of es) k.held.flusher) (sym first) (λ log fault on. (fails log fault).1 on),
+    sym mine,
   )
-  holds_first stored failed start (Alone r) first same fails = tt
+  holds_first own stored failed start (Alone r) first mine same fails = tt
 
   -- it holds after a run too
-  pub holds_on : (stored : List Entry → ℕ → Type 0) (failed : List Entry → ReportedFault → Type 0) (a b : Store D g) → AreFlushed g a b → HoldsOfStore g stored failed a → HoldsOfStore g stored failed b
-  holds_on stored failed (Kept a) (Kept b) run all =
+  pub holds_on : (own : Book) (stored : List Entry → ℕ → Type 0) (failed : List Entry → ReportedFault → Type 0) (a b : Store D g) → AreFlushed g a b → HoldsOfStore g own stored failed a → HoldsOfStore g own stored failed b
+  holds_on own stored failed (Kept a) (Kept b) run all =
       let was = history_of a.reporter.log in
       let now = history_of b.reporter.log in
       let old = a.held.flusher in
       let new = b.held.flusher in (
-        handed_on g stored was now old new (λ is. by_run g was now old new (run.flushes is)) all.0,
-        failed_on g failed was now old new (λ is. let ran = run.flushes is in (by_run g was now old new ran, ran.by_device, ran.blocks)) all.1,
+        handed_on g stored was now old new (λ is. by_run g was now old new run.same (run.flushes is)) all.0,
+        failed_on g failed was now old new (λ is. let ran = run.flushes is in (by_run g was now old new run.same ran, ran.by_device, ran.blocks)) all.1,
+        run.same ∙ all.2,
       )
-  holds_on stored failed (Kept a) (Alone b) run all = absurd run
-  holds_on stored failed (Alone a) (Kept b) run all = absurd run
-  holds_on stored failed (Alone a) (Alone b) run all = tt
+  holds_on own stored failed (Kept a) (Alone b) run all = absurd run
+  holds_on own stored failed (Alone a) (Kept b) run all = absurd run
+  holds_on own stored failed (Alone a) (Alone b) run all = tt
 
   -- ---- at the end of a book
 

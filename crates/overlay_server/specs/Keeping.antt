@@ -15,9 +15,10 @@ use Rattle.store_flushing.specs.declared.keeper.store.Store.{Store}
 use Rattle.store_flushing.specs.declared.keeper.store.Store.TheVariants.{Kept, Alone}
 
 module _ {D : Type 0} (g : Ghosts D) where
-  -- the store is one of what the reporter has seen, was at each moment, and rests; reports
+  -- the store is the same one, is one of what the reporter has seen, was at each moment, and rests; reports
   -- were written down, and stay true
   pub record IsFlushed (old new : Keeper D g) : Type 0 where
+    pub same : new.held.flusher.commit.name ≡ old.held.flusher.commit.name
     pub flushes : IsStoreOf g (history_of old.reporter.log) old.held.flusher → Flushes g (history_of old.reporter.log) old.held.flusher (history_of new.reporter.log) new.held.flusher
     pub rests : is_busy new.held.flusher.commit.phase ≡ false
     pub notes_stay : KeepsNotes g old new
@@ -29,13 +30,14 @@ module _ {D : Type 0} (g : Ghosts D) where
   AreFlushed (Kept old) (Alone new) = ⊥
   AreFlushed (Alone old) (Kept new) = ⊥
 
-  -- a predicate holds of each number that a store comes to hold, and one of each fault for which it fails, where there is
-  -- a store
-  abbrev pub HoldsOfStore : (List Entry → ℕ → Type 0) → (List Entry → ReportedFault → Type 0) → Store D g → Type 0
-  HoldsOfStore stored failed (Kept keeper) =
+  -- where there is a store, it is the book's own, a predicate holds of each number that it comes to hold, and one of each
+  -- fault for which it fails
+  abbrev pub HoldsOfStore : Book → (List Entry → ℕ → Type 0) → (List Entry → ReportedFault → Type 0) → Store D g → Type 0
+  HoldsOfStore own stored failed (Kept keeper) =
       HoldsOfStored g stored (history_of keeper.reporter.log) keeper.held.flusher
       × HoldsOfFailed g failed (history_of keeper.reporter.log) keeper.held.flusher
-  HoldsOfStore stored failed (Alone reporter) = Unit {0}
+      × (keeper.held.flusher.commit.name ≡ own)
+  HoldsOfStore own stored failed (Alone reporter) = Unit {0}
 
 -- the store's thread has returned: its reporter is of this book, and it committed versions of the book alone
 pub record IsStoreKept {D : Type 0} (book : Book) (g : Ghosts D) (old new : Store D g) : Type 0 where

@@ -1,5 +1,6 @@
 pub mod Alone
 pub mod Answering
+pub mod Asking
 pub mod Durability
 pub mod Given
 pub mod Hosting

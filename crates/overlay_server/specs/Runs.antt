@@ -46,8 +46,7 @@ module _ {D : Type 0} (g : Ghosts D) (start : Start) where
     pub before : new.before ≡ old.before
     pub keeps : IsStoreOf g old.history old.flusher → KeepsReported g old.history old.flusher new.history new.flusher
 
-  -- the book has closed: what `close`, or `Store::close`, says of its last log, in which no more is reported durable
-  -- than is stored
+  -- the book has closed, as `close` and `Store::close` say: its last log reports no more durable than is stored
   pub record ClosesTo (old new : Moment D g) : Type 0 where
     pub before : new.before ≡ old.before
     pub goes_on : BeginsWith new.history old.history

@@ -16,19 +16,21 @@ use std::alloc::Global;
 use std::snapshot::Snapshot;
 use std::sync::Wait;
 use store_flushing::keeper::store::Store;
+use version_book::closer::Closer;
 use version_book::seen_log::{BookName, SeenLog};
 use version_book::session::Session;
 use version_book::shared::Shared;
 use versions::Version;
 
 /// The book of a server that was opened: its first version with the number, the history that begins with it, what the
-/// book answered, its store, and the sessions that it began with.
+/// book answered, the right to close it, its store, and the sessions that it began with.
 pub(crate) struct Hosted<J: BookName, S: Wait + Drop, D: Disk> {
     pub number: u64,
     pub version: Snapshot<Version>,
     pub seen_log: SeenLog,
     pub answer: BookAnswer,
     pub shared: Shared<J, S>,
+    pub closer: Closer<J>,
     pub store: Store<D>,
     pub sessions: Vec<Session>,
 }
@@ -47,6 +49,7 @@ impl<J: BookName, S: Wait + Drop, D: Disk> Hosted<J, S, D> {
             seen_log,
             answer,
             shared: _shared,
+            closer: _closer,
             store,
             sessions: _sessions,
         } = self;

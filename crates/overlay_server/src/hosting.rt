@@ -5,10 +5,12 @@ ghost use Rattle.book_history.specs.Rules.{head_of};
 ghost use Rattle.book_lock.specs.Steps.{beginners};
 ghost use Rattle.overlay_terms.specs.Histories.{Entry, History};
 ghost use Rattle.book_history.specs.declared.fault.ReportedFault.{ReportedFault};
+ghost use Rattle.kept_store.specs.Beginning.{name_in};
 ghost use Rattle.script_form.specs.Transcript.{StoreReport};
 ghost use Rattle.server_session.specs.Replying.{IsAtStart, IsPastMost};
 ghost use Rattle.store_flushing.specs.Stores.{flusher_in};
 ghost use Rattle.version_book.specs.Store.{has_store};
+ghost use Rattle.overlay_server.specs.Asking.{IsAsked};
 ghost use Rattle.overlay_server.specs.Given.{Given, bytes_of, given_by, given_to};
 ghost use Rattle.overlay_server.specs.Hosting.{IsHosted};
 ghost use Rattle.overlay_server.specs.Refusing.{IsRefusedFrom, IsRefusedOf};
@@ -70,12 +72,13 @@ fn host<J: BookName, S: Wait + Drop, D: Disk>(
     only_now::<D>();
     let (begun, answer) = open_book::<J, S>(rt, alloc, head, seen_log, version, stored, sessions);
     match begun {
-        Ok((shared, reporter, sessions)) => Ok(Hosted {
+        Ok((shared, reporter, sessions, closer)) => Ok(Hosted {
             number,
             version: start,
             seen_log: first,
             answer,
             shared,
+            closer,
             store: Store::new(reporter, store),
             sessions,
         }),
@@ -104,8 +107,12 @@ where
     requires book { opened.1.book ≡ J.book }
     requires kept { store.seen_log.book ≡ J.book }
     requires begun { opened.1.log ≡ first_log version }
+    // What is reported durable has a receipt of this store: so it is by condition, on any disk.
+    requires mine { J.store ≡ name_in store.flusher }
     requires stored { (log : List Entry) (number : ℕ) → J.stored log number ↔ IsStoredOf D.Disk version store.flusher log number }
     requires failed { (log : List Entry) (fault : ReportedFault) → J.failed log fault ↔ IsFailedOf D.Disk version store.flusher log fault }
+    // What is submitted is what the readers' scripts ask their sessions for, also where this never returns.
+    requires asked { IsAsked J.asked (given_by R.remaining readers.items) }
     requires seats { J.seats ≡ length readers.items }
     requires readers { (0 < length readers.items) × (length readers.items ≤ 4) }
     ensures left { IfOk result (IsLeftFrom bytes_of D.Disk version store.flusher (given_by R.remaining readers.items)) }
@@ -143,8 +150,12 @@ where
     requires book { opened.1.book ≡ J.book }
     requires kept { store.seen_log.book ≡ J.book }
     requires begun { opened.1.log ≡ first_log version }
+    // What is reported durable has a receipt of this store: so it is by condition, on any disk.
+    requires mine { J.store ≡ name_in store.flusher }
     requires stored { (log : List Entry) (number : ℕ) → J.stored log number ↔ IsStoredOf D.Disk version store.flusher log number }
     requires failed { (log : List Entry) (fault : ReportedFault) → J.failed log fault ↔ IsFailedOf D.Disk version store.flusher log fault }
+    // What is submitted is what the ports' scripts ask their sessions for, also where this never returns.
+    requires asked { IsAsked J.asked (given_to R.remaining W.contents ports.items) }
     requires seats { J.seats ≡ length ports.items }
     requires ports { (0 < length ports.items) × (length ports.items ≤ 4) }
     requires reported { (history : History) (report : StoreReport) → ServerReports D.Disk version store.flusher history report → W.may_report history report }
@@ -191,6 +202,8 @@ where
         requires from { AllZip (λ port me. W.from port.writer (has_store self.shared) me) ports.items self.sessions.items }
         requires own { All (λ port. IfSome (W.left port.writer) (IsAtStart (R.remaining port.reader))) ports.items }
         requires limit { All (λ port. IsPastMost port.most (R.remaining port.reader) → W.may_pass_limit port.writer) ports.items }
+        requires asked { IsAsked J.asked (given_to R.remaining W.contents ports.items) }
+        requires mine { J.store ≡ name_in (flusher_in self.store) }
         requires meant { (log : List Entry) (number : ℕ) → J.stored log number ↔ IsStoredOf D.Disk self.version.value (flusher_in self.store) log number }
         requires failed { (log : List Entry) (fault : ReportedFault) → J.failed log fault ↔ IsFailedOf D.Disk self.version.value (flusher_in self.store) log fault }
         ensures left { IfOk result (IsLeftFrom W.contents D.Disk self.version.value (flusher_in self.store) (given_to R.remaining W.contents ports.items)) }
@@ -204,6 +217,7 @@ where
             seen_log,
             answer,
             shared,
+            mut closer,
             mut store,
             sessions,
         } = self;
@@ -218,7 +232,16 @@ where
         };
         let halt = Halt::new();
         let work = Work { workers, seats };
-        let worked = run_threads(rt, alloc, gate, &shared, &halt, work, &mut store);
+        let worked = run_threads(
+            rt,
+            alloc,
+            gate,
+            &shared,
+            &mut closer,
+            &halt,
+            work,
+            &mut store,
+        );
         // What was finished after the last commit is committed now that the workers have returned.
         keep_store(rt, alloc, &shared, &mut store);
         let made = made_by_all(rt, &worked.sessions);

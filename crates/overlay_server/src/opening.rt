@@ -9,6 +9,7 @@ ghost use Rattle.overlay_server.specs.Answering.{answer_in, fault_of, refusal_co
 
 use std::alloc::Global;
 use std::sync::Wait;
+use version_book::closer::Closer;
 use version_book::fault::BookFault;
 use version_book::reporter::Reporter;
 use version_book::seen_log::{BookName, LogWord, SeenLog};
@@ -35,8 +36,8 @@ impl BookAnswer {
     }
 }
 
-/// A book, its reporter and its sessions.
-pub(crate) type Begun<J, S> = (Shared<J, S>, Reporter, Vec<Session>);
+/// A book, its reporter, its sessions and the right to close it.
+pub(crate) type Begun<J, S> = (Shared<J, S>, Reporter, Vec<Session>, Closer<J>);
 
 /// Opens a book, and keeps what it answers.
 pub(crate) fn open_book<J: BookName, S: Wait + Drop>(

@@ -28,7 +28,7 @@ impl<'a, J: BookName, S: Wait + Drop, Q: Wait, D: Disk> Task for LentStore<'a, J
     ghost use Rattle.overlay_server.specs.Keeping.{HoldsOfStore, IsStoreKept};
 
     ghost can_run = { λ t. ((reporter_of t.store.now).book ≡ J.book)
-        × HoldsOfStore D.Disk J.stored J.failed t.store.now };
+        × HoldsOfStore D.Disk J.store J.stored J.failed t.store.now };
 
     ghost ran = { λ t r. (r.store.ghost_name ≡ t.store.ghost_name)
         × IsStoreKept J.book D.Disk t.store.now r.store.now };
@@ -59,7 +59,7 @@ pub fn keep_store<J: BookName, S: Wait + Drop, Q: Wait, D: Disk>(
 )
     requires book { (reporter_of store.old).book ≡ J.book }
     // What the store comes to hold may be reported durable.
-    requires stored { HoldsOfStore D.Disk J.stored J.failed store.old }
+    requires stored { HoldsOfStore D.Disk J.store J.stored J.failed store.old }
     ensures { IsStoreKept J.book D.Disk store.old store.new }
 {
     match store {

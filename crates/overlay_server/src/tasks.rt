@@ -4,6 +4,7 @@ ghost use Rattle.std.specs.Prelude.{◌≡◌, MatchResult};
 use std::snapshot::Snapshot;
 use std::sync::Wait;
 use std::thread::{Promise, PromisedHandle, Scope};
+use version_book::closer::Closer;
 use version_book::seen_log::BookName;
 use version_book::shared::Shared;
 
@@ -39,6 +40,7 @@ pub fn start_task<'s, E, J: BookName, S: Wait + Drop, Q: Wait, T: Task + Send + 
     scope: &'s Scope<'s, E>,
     rt: &Q,
     shared: &Shared<J, S>,
+    closer: &mut Closer<J>,
     task: T,
 ) -> Begun<T>
     requires { T.can_run task }
@@ -58,7 +60,7 @@ pub fn start_task<'s, E, J: BookName, S: Wait + Drop, Q: Wait, T: Task + Send + 
         Ok(handle) => Ok(handle),
         Err(refused) => {
             // In a book that closes the task waits for nobody.
-            shared.begin_close(rt);
+            shared.begin_close(rt, closer);
             Err((refused.value)())
         }
     }

@@ -23,6 +23,7 @@ use std::thread::{Scope, Threads};
 use store_flushing::keeper::store::Store;
 use tile_workers::gate::Gate;
 use tile_workers::worker::worker_loop;
+use version_book::closer::Closer;
 use version_book::seen_log::BookName;
 use version_book::session::Session;
 use version_book::shared::Shared;
@@ -49,6 +50,7 @@ pub fn run_threads<J, S, G, Q, R, W, D>(
     alloc: Global,
     gate: &G,
     shared: &Shared<J, S>,
+    closer: &mut Closer<J>,
     halt: &Halt,
     work: Work<J, R, W>,
     store: &mut Store<D>,
@@ -62,8 +64,8 @@ where
     W: ReplyWriter + Send + Drop,
     D: Disk + Send,
     requires book { (reporter_of store.old).book ≡ J.book }
-    requires stored { HoldsOfStore D.Disk J.stored J.failed store.old }
-    requires ready { IsReady J.book J.stored J.failed (has_store shared.now) W.may_report W.from R.remaining W.left
+    requires stored { HoldsOfStore D.Disk J.store J.stored J.failed store.old }
+    requires ready { IsReady J.book J.stored J.failed J.asked (has_store shared.now) W.may_report W.from R.remaining W.left
         W.may_pass_limit work }
     ensures store { IsStoreKept J.book D.Disk store.old store.new }
     ensures left { Leave (IsRunOf J.book (store_of J.stored J.failed (has_store shared.now)) R.remaining W.contents)
@@ -76,7 +78,7 @@ where
         store,
     };
     let (LentStore { store: _store, .. }, worked) = run_beside(
-        rt, alloc, gate, shared, halt, work, lent,
+        rt, alloc, gate, shared, closer, halt, work, lent,
     );
     take_back(store);
     worked
@@ -93,6 +95,7 @@ fn run_beside<J, S, G, Q, R, W, T>(
     alloc: Global,
     gate: &G,
     shared: &Shared<J, S>,
+    closer: &mut Closer<J>,
     halt: &Halt,
     work: Work<J, R, W>,
     task: T,
@@ -105,7 +108,7 @@ where
     R: Read + Send + Drop,
     W: ReplyWriter + Send + Drop,
     T: Task + Send + Drop,
-    requires { T.can_run task × IsReady J.book J.stored J.failed (has_store shared.now) W.may_report W.from R.remaining
+    requires { T.can_run task × IsReady J.book J.stored J.failed J.asked (has_store shared.now) W.may_report W.from R.remaining
         W.left W.may_pass_limit work }
     ensures task { T.ran task result.0 }
     ensures left { Leave (IsRunOf J.book (store_of J.stored J.failed (has_store shared.now)) R.remaining W.contents)
@@ -115,12 +118,12 @@ where
         thread::scope_env(),
         rt,
         |scope| -> (T, Worked<W>)
-            requires { T.can_run task × IsReady J.book J.stored J.failed (has_store shared.now) W.may_report W.from
+            requires { T.can_run task × IsReady J.book J.stored J.failed J.asked (has_store shared.now) W.may_report W.from
                 R.remaining W.left W.may_pass_limit work }
             ensures task { T.ran task result.0 }
             ensures left { Leave (IsRunOf J.book (store_of J.stored J.failed (has_store shared.entry.now))
                 R.remaining W.contents) work.seats.scripts.items result.1.sessions.items result.1.finished.items }
-        { run_in(scope, rt, alloc, gate, shared, halt, work, task) },
+        { run_in(scope, rt, alloc, gate, shared, closer, halt, work, task) },
     )
 }
 
@@ -131,6 +134,7 @@ fn run_in<'s, E, J, S, G, Q, R, W, T>(
     alloc: Global,
     gate: &'s G,
     shared: &'s Shared<J, S>,
+    closer: &mut Closer<J>,
     halt: &'s Halt,
     work: Work<J, R, W>,
     task: T,
@@ -143,7 +147,7 @@ where
     R: Read + Send + Drop + 's,
     W: ReplyWriter + Send + Drop + 's,
     T: Task + Send + Drop + 's,
-    requires { T.can_run task × IsReady J.book J.stored J.failed (has_store shared.now) W.may_report W.from R.remaining
+    requires { T.can_run task × IsReady J.book J.stored J.failed J.asked (has_store shared.now) W.may_report W.from R.remaining
         W.left W.may_pass_limit work }
     ensures task { T.ran task result.0 }
     ensures left { Leave (IsRunOf J.book (store_of J.stored J.failed (has_store shared.now)) R.remaining W.contents)
@@ -151,12 +155,12 @@ where
 {
     let Work { workers, seats } = work;
     let working = start_workers(scope, rt, alloc, gate, shared, workers);
-    let begun = start_task(scope, rt, shared, task);
+    let begun = start_task(scope, rt, shared, closer, task);
     if !working || begun.is_err() {
         halt.set();
     }
-    let (sessions, finished) = run_sessions(scope, rt, alloc, shared, halt, seats);
-    shared.begin_close(rt);
+    let (sessions, finished) = run_sessions(scope, rt, alloc, shared, closer, halt, seats);
+    shared.begin_close(rt, closer);
     let task = match begun {
         Ok(handle) => handle.join(rt),
         Err(task) => task,

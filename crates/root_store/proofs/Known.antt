@@ -251,6 +251,7 @@ pub put_back : {D T E : Type 0} (g : Ghosts D) (result : Result T E) (s : Commit
     (keeps : g.is_honest s.disk → ∥ Keeps g s.disk s.root s.live s.next_root s.next_live (drop s.next s.plan.items) s.phase ∥₁)
     → OnErr result (record {
       disk = s.disk;
+      name = s.name;
       root = s.root;
       live = s.live;
       phase = s.phase;
@@ -264,6 +265,7 @@ put_back g (Ok x) s keeps = tt
 put_back g (Err e) s keeps =
     λ i. record {
       disk = s.disk;
+      name = s.name;
       root = s.root;
       live = s.live;
       phase = s.phase;

@@ -35,6 +35,7 @@ impl<D: Disk> Commit<D> {
         ensures begun { (x : Kept) (held : Held) → StoreStandsFor D.Disk self.old x → x.root.sequence < sequence_max
             → NextHolds x held next → (y : Kept) × (y.held ≡ held) × RunsFrom D.Disk self.new x y }
         ensures disk { self.new.disk ≡ self.old.disk }
+        ensures name { self.new.name ≡ self.old.name }
         ensures root { self.new.next_root ≡ next.root }
         ensures plan { self.new.plan.items ≡ next.plan.items }
         ensures left { writes_left self.new ≡ self.new.plan.items }
@@ -101,6 +102,7 @@ impl<D: Disk> Commit<D> {
         ensures calls { OnOk result
             (calls_left self.new ≡ new_records (live_content self.old.live) (image_held image) + 7) }
         ensures disk { self.new.disk ≡ self.old.disk }
+        ensures name { self.new.name ≡ self.old.name }
         // The blocks that the file may have stay as many.
         ensures blocks { (limit : ℕ) → KeepsTo limit self.old → KeepsTo limit self.new }
         ensures err { OnErr result (self.new ≡ self.old) }
@@ -153,6 +155,7 @@ impl<D: Disk> Commit<D> {
         ensures calls { OnOk result
             (calls_left self.new ≡ new_records (live_content self.old.live) (image_held image) + 7) }
         ensures disk { self.new.disk ≡ self.old.disk }
+        ensures name { self.new.name ≡ self.old.name }
         // The blocks that the file may have stay as many.
         ensures blocks { (limit : ℕ) → KeepsTo limit self.old → KeepsTo limit self.new }
         ensures err { OnErr result (self.new ≡ self.old) }

@@ -13,6 +13,8 @@ use commit_plan::live_records::LiveRecords;
 use commit_plan::write::Write;
 use disk_model::disk::Disk;
 use std::mem;
+use store_receipt::receipt::Receipt;
+use store_receipt::store_name::StoreName;
 use store_terms::layout::{GATE_CLOSED, GATE_OPEN};
 use store_terms::root::Root;
 
@@ -20,6 +22,8 @@ use store_terms::root::Root;
 #[derive(Debug, Drop)]
 pub struct Commit<D: Disk> {
     pub(crate) disk: D,
+    /// Which store it is: no call gives the name, so `receipt` alone says what this store holds.
+    pub(crate) name: StoreName,
     /// What the file holds while no commit is under way.
     pub(crate) root: Root,
     pub(crate) live: LiveRecords,
@@ -68,6 +72,14 @@ impl<D: Disk> Commit<D> {
         self.root.version
     }
 
+    /// That this store holds the version of its live root: what is written under its name alone.
+    pub fn receipt(&self) -> Receipt
+        ensures store { result.store ≡ self.now.name }
+        ensures number { result.number ≡ self.now.root.version }
+    {
+        Receipt::of(&self.name, self.root.version)
+    }
+
     /// The disk, as the calls have left it, shut.
     pub fn into_disk(self) -> Shut<D>
         ensures { result ≡ self.disk }
@@ -80,6 +92,8 @@ impl<D: Disk> Commit<D> {
         // Where a commit from x to y is under way, a crash at any moment of the call leaves x or y.
         ensures moves { (x y : Kept) → RunsFrom D.Disk self.old x y → Stepped D.Disk self.old self.new result x y }
         ensures honest { D.is_honest self.new.disk ↔ D.is_honest self.old.disk }
+        // It stays the store that it is.
+        ensures name { self.new.name ≡ self.old.name }
         // It writes what its phase is named for, and no other byte: the other slot's gate byte, or the first of the
         // writes that are left. These stay as they are, but for that one.
         ensures wrote { D.is_honest self.old.disk

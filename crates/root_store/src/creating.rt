@@ -21,6 +21,7 @@ use extent_map::extent::Extent as Run;
 use extent_map::{BLOCK, FIRST_BLOCK};
 use record_writing::root_body::write_body;
 use std::alloc::{AllocError, Global};
+use store_receipt::store_name::StoreName;
 use store_terms::layout::{BODY, GATE_OPEN, NEW_BLOCKS, SLOTS_END};
 use store_terms::root::{RecordExtent, Root};
 
@@ -160,6 +161,7 @@ pub fn create<D: Disk>(
     match prepare(alloc, &mut disk, max_blocks) {
         Ok((room, next_room)) => Ok(Commit {
             disk,
+            name: StoreName::new(),
             root: FIRST,
             live: LiveRecords::empty(alloc, room),
             phase: Phase::Idle,

@@ -24,6 +24,7 @@ use commit_plan::loaded::{Loaded, read_root};
 use disk_model::disk::Disk;
 use root_reading::load_fault::LoadFault;
 use std::alloc::Global;
+use store_receipt::store_name::StoreName;
 use store_terms::layout::NUMBER_MAX;
 
 /// Makes what was written stay: from then on a crash leaves what is seen, and nothing else.
@@ -118,6 +119,7 @@ pub fn open<D: Disk>(
             let image = Image::of_table(root.version, loaded.content);
             let commit = Commit {
                 disk,
+                name: StoreName::new(),
                 root,
                 live: loaded.live,
                 phase: Phase::Idle,

@@ -44,7 +44,7 @@ pub past_most : (most : ℕ) (stored : BookStore) (was : Known) (input left outp
 past_most most stored was input left output all count state now way past = past_by most way.taken input left way.reads (way.as_many ∙ past)
 
 -- the front of a script that is not too long is the whole of it
-in_limit : (most : ℕ) (taken : List ℕ) → length taken ≤ most → take most taken ≡ taken
+pub in_limit : (most : ℕ) (taken : List ℕ) → length taken ≤ most → take most taken ≡ taken
 in_limit most taken short = take_all most taken short
 
 -- the turns of a script that was taken so far, and those that its end ends, or more bytes
@@ -178,7 +178,7 @@ take_of_append (suc n) (x ∷ xs) ys short =
     ap (λ l. x ∷ l) (take_of_append n xs ys (omega arith) ∙ ap (λ k. xs ++ take k ys) (omega arith))
 
 -- the bytes of a read, as far as the limit lets them in
-let_in : (most : ℕ) (taken chunk : List ℕ) (count allowed : ℕ) → length taken ≤ most → allowed ≡ min count (most - length taken)
+pub let_in : (most : ℕ) (taken chunk : List ℕ) (count allowed : ℕ) → length taken ≤ most → allowed ≡ min count (most - length taken)
     → take most taken ++ take allowed chunk ≡ take most (taken ++ take count chunk)
 let_in most taken chunk count allowed short is =
     ap (λ l. l ++ take allowed chunk) (in_limit most taken short)

@@ -61,7 +61,7 @@ without_both these those l = drop-drop (length those) (length these) l ∙ ap (�
 -- ==== The turns that are left
 
 -- whatever comes, the turns that have ended stay the first of all
-turns_on : (taken more : List ℕ) → (rest : List Turn) × (all_turns_of (whole_lines (taken ++ more)) ≡ turns_of (ended_lines taken) ++ rest)
+pub turns_on : (taken more : List ℕ) → (rest : List Turn) × (all_turns_of (whole_lines (taken ++ more)) ≡ turns_of (ended_lines taken) ++ rest)
 turns_on taken more =
     let on = ended_lines-more taken more in
     let last = last_line (unended (taken ++ more)) in
@@ -157,10 +157,10 @@ part_away old part none (Some l) = λ taken has. without_none (turns_ended taken
 -- with a line feed behind it: the turn that the line ends
 module _ (old : SessionState) (part line : List ℕ) (none : has_no_feed part ≡ true) (pushed : line ≡ take line_room (old.line ++ part)) (before : Option OpenBatch) (ended : List ℕ)
     (same : before ≡ old.waiting) (is : ended ≡ without_cr line) where
-  fed_open : (taken : List ℕ) → HasTaken old taken → IsOpen (waiting_after_lines (ended_lines taken)) before
+  pub fed_open : (taken : List ℕ) → HasTaken old taken → IsOpen (waiting_after_lines (ended_lines taken)) before
   fed_open taken has = subst (IsOpen (waiting_after_lines (ended_lines taken))) (sym same) has.waits
 
-  fed_turns : (taken : List ℕ) → HasTaken old taken → turns_ended taken (part ++ 10 ∷ []) ≡ ended_by (waiting_after_lines (ended_lines taken)) (request_of ended)
+  pub fed_turns : (taken : List ℕ) → HasTaken old taken → turns_ended taken (part ++ 10 ∷ []) ≡ ended_by (waiting_after_lines (ended_lines taken)) (request_of ended)
   fed_turns taken has =
       turns_ended-line taken part none
       ∙ ap (ended_by (waiting_after_lines (ended_lines taken)))
@@ -202,7 +202,7 @@ module _ (state : SessionState) (before : Option OpenBatch) (same : before ≡ s
   left_at_end : (l : List Turn) (on : IsOnWay state [] l) → turns_at_end on.taken ≡ l
   left_at_end l on = turns_at_end-are on.taken l (ap (λ bs. all_turns_of (whole_lines bs)) (sym (append-nil on.taken)) ∙ on.parts)
 
-  end_open : (taken : List ℕ) → HasTaken state taken → IsOpen (waiting_after_lines (ended_lines taken)) before
+  pub end_open : (taken : List ℕ) → HasTaken state taken → IsOpen (waiting_after_lines (ended_lines taken)) before
   end_open taken has = subst (IsOpen (waiting_after_lines (ended_lines taken))) (sym same) has.waits
 
   -- after a line feed

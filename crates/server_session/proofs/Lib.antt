@@ -10,3 +10,4 @@ pub mod TileAnswers
 pub mod Replies
 pub mod Weaker
 pub mod Left
+pub mod Asked

@@ -6,3 +6,4 @@ pub mod Answering
 pub mod SessionState
 pub mod Loop
 pub mod Replying
+pub mod Asking

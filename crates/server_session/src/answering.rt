@@ -1,5 +1,5 @@
 //! The answer to one line.
-ghost use Rattle.std.specs.Prelude.{◌≡◌, IfOk, IfErr, IfSome};
+ghost use Rattle.std.specs.Prelude.{◌≡◌, [], ◌∷◌, IfOk, IfErr, IfSome};
 ghost use Rattle.std.specs.Arc.{arc_value};
 ghost use Rattle.overlay_terms.specs.Histories.{newest, IsHistory};
 ghost use Rattle.book_history.specs.Known.{seen};
@@ -9,6 +9,7 @@ ghost use Rattle.script_form.specs.Requests.{request, put_text, define_text, rem
 ghost use Rattle.script_form.specs.Transcript.{asked_column};
 ghost use Rattle.server_session.specs.Stores.{no_store, store_of};
 ghost use Rattle.server_session.specs.Answering.{Answers, Submits, result_text};
+ghost use Rattle.server_session.specs.Asking.{MayAskAlone, MayAskAtLine};
 ghost use Rattle.server_session.specs.Replying.{IsReplySince};
 ghost use Rattle.server_session.specs.Session.{Stays};
 ghost use Rattle.server_session.specs.Turn.{EndsTurn, TakesTurn, fault_text};
@@ -44,7 +45,9 @@ pub fn answer<J: BookName, S: Wait + Drop, Q: Wait + Threads + Sync>(
     waiting: &mut Option<OpenBatch>,
     line: &[u8],
 ) -> Option<LineReply>
-    requires { me.old.book ≡ J.book }
+    requires book { me.old.book ≡ J.book }
+    // What the line asks for may be submitted, and nothing else, also in a call that never returns.
+    requires asked { MayAskAtLine (J.asked me.old.session) waiting.old line.now }
     ensures takes { TakesTurn (store_of J.stored J.failed (has_store shared.now)) me.old waiting.old line.now me.new waiting.new (fault_text result) }
     ensures ends { EndsTurn waiting.old line.now me.old me.new result }
     // So much is owed before it is written, wherever in a script.
@@ -65,7 +68,8 @@ fn answer_alone<J: BookName, S: Wait + Drop, Q: Wait + Threads + Sync>(
     me: &mut Session,
     asked: Request<'_>,
 ) -> LineReply
-    requires { me.old.book ≡ J.book }
+    requires book { me.old.book ≡ J.book }
+    requires asked { MayAskAlone (J.asked me.old.session) (request asked) }
     ensures { Answers (store_of J.stored J.failed (has_store shared.now)) me.old (request asked.entry) me.new (reply_text result) }
 {
     match answer_request(rt, alloc, shared, me, asked) {
@@ -82,7 +86,8 @@ fn answer_request<J: BookName, S: Wait + Drop, Q: Wait + Threads + Sync>(
     me: &mut Session,
     asked: Request<'_>,
 ) -> Result<LineReply, CommandFault>
-    requires { me.old.book ≡ J.book }
+    requires book { me.old.book ≡ J.book }
+    requires asked { MayAskAlone (J.asked me.old.session) (request asked) }
     ensures { Answers (store_of J.stored J.failed (has_store shared.now)) me.old (request asked.entry) me.new (result_text result) }
 {
     match asked {
@@ -114,7 +119,8 @@ fn answer_put<J: BookName, S: Wait + Drop, Q: Wait>(
     name: &[u8],
     text: &[u8],
 ) -> Result<LineReply, CommandFault>
-    requires { me.old.book ≡ J.book }
+    requires book { me.old.book ≡ J.book }
+    requires asked { MayAskAlone (J.asked me.old.session) (put_text name.now text.now) }
     ensures { Answers (store_of J.stored J.failed (has_store shared.now)) me.old (put_text name.now text.now) me.new (result_text result) }
 {
     let change = read_put(alloc, name, text)?;
@@ -129,7 +135,8 @@ fn answer_define<J: BookName, S: Wait + Drop, Q: Wait>(
     name: &[u8],
     text: &[u8],
 ) -> Result<LineReply, CommandFault>
-    requires { me.old.book ≡ J.book }
+    requires book { me.old.book ≡ J.book }
+    requires asked { MayAskAlone (J.asked me.old.session) (define_text name.now text.now) }
     ensures { Answers (store_of J.stored J.failed (has_store shared.now)) me.old (define_text name.now text.now) me.new (result_text result) }
 {
     let change = read_define(alloc, name, text)?;
@@ -143,7 +150,8 @@ fn answer_remove<J: BookName, S: Wait + Drop, Q: Wait>(
     me: &mut Session,
     name: &[u8],
 ) -> Result<LineReply, CommandFault>
-    requires { me.old.book ≡ J.book }
+    requires book { me.old.book ≡ J.book }
+    requires asked { MayAskAlone (J.asked me.old.session) (remove_name name.now) }
     ensures { Answers (store_of J.stored J.failed (has_store shared.now)) me.old (remove_name name.now) me.new (result_text result) }
 {
     let change = read_remove(alloc, name)?;
@@ -158,7 +166,8 @@ fn submit<J: BookName, S: Wait + Drop, Q: Wait>(
     me: &mut Session,
     change: &Command,
 ) -> Result<LineReply, CommandFault>
-    requires { me.old.book ≡ J.book }
+    requires book { me.old.book ≡ J.book }
+    requires asked { J.asked me.old.session (command change.now ∷ []) }
     ensures { Submits me.old (command change.now) me.new (result_text result) }
 {
     match shared.submit(rt, alloc, me, change) {

@@ -1,5 +1,5 @@
 //! The answer to the lines of a batch.
-ghost use Rattle.std.specs.Prelude.{◌≡◌};
+ghost use Rattle.std.specs.Prelude.{◌≡◌, IfOk};
 ghost use Rattle.script_form.specs.Replies.{reply_text};
 ghost use Rattle.server_session.specs.Answering.{AnswersAll, SubmitsAll};
 ghost use Rattle.server_session.specs.Fault.{lines_reported};
@@ -25,7 +25,8 @@ pub(crate) fn answer_batch<J: BookName, S: Wait + Drop, Q: Wait>(
     me: &mut Session,
     read: Result<Batch, LinesFault>,
 ) -> LineReply
-    requires { me.old.book ≡ J.book }
+    requires book { me.old.book ≡ J.book }
+    requires asked { IfOk read (λ batch. J.asked me.old.session batch) }
     ensures answers { AnswersAll me.old read me.new (reply_text result) }
     ensures right { IsReplySince (store_of J.stored J.failed (has_store shared.now)) me.old me.new (reply_text result) }
 {
@@ -53,7 +54,8 @@ fn submit_all<J: BookName, S: Wait + Drop, Q: Wait>(
     me: &mut Session,
     batch: &Batch,
 ) -> LineReply
-    requires { me.old.book ≡ J.book }
+    requires book { me.old.book ≡ J.book }
+    requires asked { J.asked me.old.session batch.now }
     ensures { SubmitsAll me.old batch.now me.new (reply_text result) }
 {
     match shared.submit_all(rt, alloc, me, batch) {

@@ -6,6 +6,7 @@ ghost use Rattle.version_book.specs.Store.{has_store};
 ghost use Rattle.script_form.specs.Fault.{code_of};
 ghost use Rattle.script_form.specs.Lines.{script_max};
 ghost use Rattle.script_form.specs.Replies.{error_line};
+ghost use Rattle.server_session.specs.Asking.{MayAskAll, MayAskLast};
 ghost use Rattle.server_session.specs.Replying.{IsAtStart, IsPastMost, MayReport};
 ghost use Rattle.server_session.specs.Stores.{store_of};
 ghost use Rattle.server_session.specs.Session.{IsSessionWithin, Stays};
@@ -37,7 +38,8 @@ pub fn session_run<J: BookName, S: Wait + Drop, Q: Wait + Threads + Sync, R: Rea
     reader: &mut R,
     writer: &mut W,
 ) -> SessionEnd
-    requires { me.old.book ≡ J.book }
+    requires book { me.old.book ≡ J.book }
+    requires asked { MayAskAll (J.asked me.old.session) (R.remaining reader.old) }
     ensures run { IsSessionWithin script_max (store_of J.stored J.failed (has_store shared.now)) result me.old me.new (R.remaining reader.old)
         (R.remaining reader.new) (W.contents writer.old) (W.contents writer.new) }
     ensures goes_on { BeginsWith (seen me.new) (seen me.old) }
@@ -65,6 +67,8 @@ pub fn session_run_within<
     writer: &mut W,
 ) -> SessionEnd
     requires book { me.old.book ≡ J.book }
+    // What the script asks for may be submitted, and nothing else, also in a call that never returns.
+    requires asked { MayAskAll (J.asked me.old.session) (R.remaining reader.old) }
     requires countable { most < 2 ^ 63 }
     requires reported { MayReport J.stored J.failed (has_store shared.now) me.old W.may_report }
     requires from { W.from writer.old (has_store shared.now) me.old }
@@ -126,6 +130,7 @@ fn run<J: BookName, S: Wait + Drop, Q: Wait + Threads + Sync, R: Read, W: ReplyW
     writer: &mut W,
 ) -> SessionEnd
     requires book { me.old.book ≡ J.book }
+    requires asked { MayAskAll (J.asked me.old.session) (R.remaining reader.old) }
     requires begun { HasTaken state.old [] }
     requires going { has_ended state.old ≡ false }
     requires room { 0 < length chunk.old }
@@ -165,6 +170,7 @@ fn finish<J: BookName, S: Wait + Drop, Q: Wait + Threads + Sync, W: ReplyWriter>
     writer: &mut W,
 ) -> SessionEnd
     requires book { me.old.book ≡ J.book }
+    requires asked { MayAskLast (J.asked me.old.session) state.old }
     requires going { has_ended state.old ≡ false }
     requires reported { MayReport J.stored J.failed (has_store shared.now) me.old W.may_report }
     requires from { W.from writer.old (has_store shared.now) me.old }

@@ -8,6 +8,7 @@ ghost use Rattle.script_form.specs.Lines.{has_no_feed};
 ghost use Rattle.script_form.specs.OpenBatch.{IsOpen};
 ghost use Rattle.script_form.specs.Requests.{request_of};
 ghost use Rattle.script_form.specs.Turns.{Waiting, ended_by};
+ghost use Rattle.server_session.specs.Asking.{MayAskAtLine, MayAskLast, MayAskNext};
 ghost use Rattle.server_session.specs.Replying.{MayReport};
 ghost use Rattle.server_session.specs.Stores.{store_of};
 ghost use Rattle.server_session.specs.Session.{Stays};
@@ -68,6 +69,8 @@ impl SessionState {
         writer: &mut W,
     ) -> Result<(), CommandFault>
         requires book { me.old.book ≡ J.book }
+        // What the turns that the bytes end ask for may be submitted, and nothing else, also in a call that never returns.
+        requires asked { MayAskNext (J.asked me.old.session) self.old bytes.now }
         requires going { has_ended self.old ≡ false }
         requires reported { MayReport J.stored J.failed (has_store shared.now) me.old W.may_report }
         requires from { W.from writer.old (has_store shared.now) me.old }
@@ -107,6 +110,7 @@ impl SessionState {
         writer: &mut W,
     ) -> Result<(), CommandFault>
         requires book { me.old.book ≡ J.book }
+        requires asked { MayAskNext (J.asked me.old.session) self.old bytes.now }
         requires going { has_ended self.old ≡ false }
         requires reported { MayReport J.stored J.failed (has_store shared.now) me.old W.may_report }
         requires from { W.from writer.old (has_store shared.now) me.old }
@@ -148,6 +152,7 @@ impl SessionState {
         writer: &mut W,
     ) -> Result<(), CommandFault>
         requires book { me.old.book ≡ J.book }
+        requires asked { MayAskNext (J.asked me.old.session) self.old (bytes.now ++ 10 ∷ []) }
         requires going { has_ended self.old ≡ false }
         requires reported { MayReport J.stored J.failed (has_store shared.now) me.old W.may_report }
         requires from { W.from writer.old (has_store shared.now) me.old }
@@ -191,6 +196,7 @@ impl SessionState {
         writer: &mut W,
     ) -> Result<(), CommandFault>
         requires book { me.old.book ≡ J.book }
+        requires asked { MayAskLast (J.asked me.old.session) self.old }
         requires going { has_ended self.old ≡ false }
         requires reported { MayReport J.stored J.failed (has_store shared.now) me.old W.may_report }
         requires from { W.from writer.old (has_store shared.now) me.old }
@@ -220,6 +226,7 @@ impl SessionState {
         writer: &mut W,
     ) -> Result<(), CommandFault>
         requires book { me.old.book ≡ J.book }
+        requires asked { MayAskLast (J.asked me.old.session) self.old }
         requires going { has_ended self.old ≡ false }
         requires reported { MayReport J.stored J.failed (has_store shared.now) me.old W.may_report }
         requires from { W.from writer.old (has_store shared.now) me.old }
@@ -256,6 +263,7 @@ fn answer_line<J: BookName, S: Wait + Drop, Q: Wait + Threads + Sync, W: ReplyWr
     writer: &mut W,
 ) -> Result<(), CommandFault>
     requires book { me.old.book ≡ J.book }
+    requires asked { MayAskAtLine (J.asked me.old.session) waiting.old line.now }
     requires reported { MayReport J.stored J.failed (has_store shared.now) me.old W.may_report }
     requires from { W.from writer.old (has_store shared.now) me.old }
     requires own { IfSome (W.left writer.old) (IsAtLine waiting.old line.now) }

@@ -2,6 +2,7 @@
 ghost use Rattle.std.specs.Prelude.{◌≡◌, ◌<◌, All, length, IfSome, MatchResult};
 ghost use Rattle.server_session.specs.Replying.{IsAtStart, IsPastMost, MayReport};
 ghost use Rattle.server_session.specs.Stores.{store_of};
+ghost use Rattle.server_session.specs.Asking.{MayAskAll};
 ghost use Rattle.session_threads.specs.Rooms.{HasRoom, IsReserved};
 ghost use Rattle.session_threads.specs.Running.{IsNotBegunOf, IsRunOf};
 ghost use Rattle.session_threads.specs.Seats.{Leave};
@@ -18,6 +19,7 @@ use std::marker::PhantomData;
 use std::snapshot::Snapshot;
 use std::sync::Wait;
 use std::thread::{Promise, PromisedHandle, Scope, Threads};
+use version_book::closer::Closer;
 use version_book::seen_log::BookName;
 use version_book::session::Session;
 use version_book::shared::Shared;
@@ -70,12 +72,14 @@ pub struct Seats<J: BookName, R: Read, W: ReplyWriter> {
 
 /// Runs a thread for each script, and takes them in, in their order. Where a thread is refused, the run halts and the
 /// book closes: the scripts that are begun by then end as in a book that closes, and the others come back as they were,
-/// as those of sessions that had no memory (40).
+/// as those of sessions that had no memory (40). The right to close the book is lent for less than the scope, so no thread
+/// of a session has it.
 pub fn run_sessions<'s, E, J, S, Q, R, W>(
     scope: &'s Scope<'s, E>,
     rt: &'s Q,
     alloc: Global,
     shared: &'s Shared<J, S>,
+    closer: &mut Closer<J>,
     halt: &'s Halt,
     seats: Seats<J, R, W>,
 ) -> (Vec<Session>, Vec<Finished<W>>)
@@ -91,6 +95,7 @@ where
     requires from { All (λ script. W.from script.port.writer (has_store shared.now) script.session) seats.scripts.items }
     requires own { All (λ script. IfSome (W.left script.port.writer)
         (IsAtStart (R.remaining script.port.reader))) seats.scripts.items }
+    requires asked { All (λ script. MayAskAll (J.asked script.session.session) (R.remaining script.port.reader)) seats.scripts.items }
     requires limit { All (λ script. IsPastMost script.port.most (R.remaining script.port.reader)
         → W.may_pass_limit script.port.writer) seats.scripts.items }
     requires room { HasRoom seats (length seats.scripts.items) }
@@ -105,7 +110,7 @@ where
         finished,
     } = seats;
     for script in scripts {
-        running.push_reserved(start_session(scope, rt, alloc, shared, halt, script));
+        running.push_reserved(start_session(scope, rt, alloc, shared, closer, halt, script));
     }
     join_sessions(rt, running, sessions, finished)
 }
@@ -117,6 +122,7 @@ fn start_session<'s, E, J, S, Q, R, W>(
     rt: &'s Q,
     alloc: Global,
     shared: &'s Shared<J, S>,
+    closer: &mut Closer<J>,
     halt: &'s Halt,
     script: Script<R, W>,
 ) -> Begun<J, R, W>
@@ -130,6 +136,7 @@ where
     requires reported { MayReport J.stored J.failed (has_store shared.now) script.session W.may_report }
     requires from { W.from script.port.writer (has_store shared.now) script.session }
     requires own { IfSome (W.left script.port.writer) (IsAtStart (R.remaining script.port.reader)) }
+    requires asked { MayAskAll (J.asked script.session.session) (R.remaining script.port.reader) }
     requires limit { IsPastMost script.port.most (R.remaining script.port.reader) → W.may_pass_limit script.port.writer }
     ensures { MatchResult result
         (λ h. (h.promise.begun.value ≡ script) × (h.promise.stored ≡ has_store shared.now))
@@ -150,6 +157,7 @@ where
             requires reported { MayReport J.stored J.failed (has_store shared.now) script.session W.may_report }
             requires from { W.from script.port.writer (has_store shared.now) script.session }
             requires own { IfSome (W.left script.port.writer) (IsAtStart (R.remaining script.port.reader)) }
+            requires asked { MayAskAll (J.asked script.session.session) (R.remaining script.port.reader) }
             requires limit { IsPastMost script.port.most (R.remaining script.port.reader) → W.may_pass_limit script.port.writer }
             ensures { IsRunOf J.book (store_of J.stored J.failed
                 (has_store shared.entry.now)) R.remaining W.contents script result }
@@ -160,7 +168,7 @@ where
         Err(refused) => {
             // In a run that has halted the closure begins nothing, and gives the script back.
             halt.set();
-            shared.begin_close(rt);
+            shared.begin_close(rt, closer);
             Err((refused.value)())
         }
     }
@@ -218,6 +226,7 @@ fn begin_script<J: BookName, S: Wait + Drop, Q: Threads + Wait + Sync, R: Read, 
     requires reported { MayReport J.stored J.failed (has_store shared.now) script.session W.may_report }
     requires from { W.from script.port.writer (has_store shared.now) script.session }
     requires own { IfSome (W.left script.port.writer) (IsAtStart (R.remaining script.port.reader)) }
+    requires asked { MayAskAll (J.asked script.session.session) (R.remaining script.port.reader) }
     requires limit { IsPastMost script.port.most (R.remaining script.port.reader) → W.may_pass_limit script.port.writer }
     ensures { IsRunOf J.book (store_of J.stored J.failed (has_store shared.now)) R.remaining W.contents script result }
 {
@@ -253,6 +262,7 @@ fn run_script<J: BookName, S: Wait + Drop, Q: Threads + Wait + Sync, R: Read, W:
     requires reported { MayReport J.stored J.failed (has_store shared.now) script.session W.may_report }
     requires from { W.from script.port.writer (has_store shared.now) script.session }
     requires own { IfSome (W.left script.port.writer) (IsAtStart (R.remaining script.port.reader)) }
+    requires asked { MayAskAll (J.asked script.session.session) (R.remaining script.port.reader) }
     requires limit { IsPastMost script.port.most (R.remaining script.port.reader) → W.may_pass_limit script.port.writer }
     ensures { IsRunOf J.book (store_of J.stored J.failed (has_store shared.now)) R.remaining W.contents script result }
 {

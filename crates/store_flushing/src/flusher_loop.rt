@@ -33,6 +33,7 @@ pub fn flush<J: BookName, R: Wait + Drop, D: Disk, W: Wait>(
     keeper: &mut Keeper<D>,
 )
     requires book { keeper.old.reporter.book ≡ J.book }
+    requires own { keeper.old.held.flusher.commit.name ≡ J.store }
     requires stored { HoldsOfStored D.Disk J.stored (history_of keeper.old.reporter.log) keeper.old.held.flusher }
     requires failed { HoldsOfFailed D.Disk J.failed (history_of keeper.old.reporter.log) keeper.old.held.flusher }
     // What it stores it reports, and a crash at any moment leaves a version that the reporter has seen in the end, no
@@ -44,6 +45,7 @@ pub fn flush<J: BookName, R: Wait + Drop, D: Disk, W: Wait>(
     // No commit is left half done, unless the device failed.
     ensures rests { is_busy keeper.new.held.flusher.commit.phase ≡ false }
     ensures same { keeper.new.reporter.book ≡ keeper.old.reporter.book }
+    ensures name { keeper.new.held.flusher.commit.name ≡ keeper.old.held.flusher.commit.name }
 {
     'rounds: for _ in rt.forever() {
         if !round(rt, alloc, shared, keeper) {
@@ -62,6 +64,7 @@ fn round<J: BookName, R: Wait + Drop, D: Disk, W: Wait>(
     keeper: &mut Keeper<D>,
 ) -> bool
     requires book { keeper.old.reporter.book ≡ J.book }
+    requires own { keeper.old.held.flusher.commit.name ≡ J.store }
     requires stored { HoldsOfStored D.Disk J.stored (history_of keeper.old.reporter.log) keeper.old.held.flusher }
     requires failed { HoldsOfFailed D.Disk J.failed (history_of keeper.old.reporter.log) keeper.old.held.flusher }
     ensures flushes { IsStoreOf D.Disk (history_of keeper.old.reporter.log) keeper.old.held.flusher
@@ -71,6 +74,7 @@ fn round<J: BookName, R: Wait + Drop, D: Disk, W: Wait>(
     ensures rests { is_busy keeper.new.held.flusher.commit.phase ≡ false }
     ensures ends { result ≡ false → (keeper.new.held.flusher.commit.phase ≡ phases.Failed) ⊎ (keeper.new ≡ keeper.old) }
     ensures same { keeper.new.reporter.book ≡ keeper.old.reporter.book }
+    ensures name { keeper.new.held.flusher.commit.name ≡ keeper.old.held.flusher.commit.name }
 {
     if keeper.busy() {
         return end_commit(rt, alloc, shared, keeper);
@@ -94,6 +98,7 @@ fn commit<J: BookName, R: Wait + Drop, D: Disk, W: Wait>(
     version: &Version,
 ) -> bool
     requires book { keeper.old.reporter.book ≡ J.book }
+    requires own { keeper.old.held.flusher.commit.name ≡ J.store }
     requires stored { HoldsOfStored D.Disk J.stored (history_of keeper.old.reporter.log) keeper.old.held.flusher }
     requires failed { HoldsOfFailed D.Disk J.failed (history_of keeper.old.reporter.log) keeper.old.held.flusher }
     requires idle { is_busy keeper.old.held.flusher.commit.phase ≡ false }
@@ -106,6 +111,7 @@ fn commit<J: BookName, R: Wait + Drop, D: Disk, W: Wait>(
     ensures rests { is_busy keeper.new.held.flusher.commit.phase ≡ false }
     ensures ends { result ≡ false → keeper.new.held.flusher.commit.phase ≡ phases.Failed }
     ensures same { keeper.new.reporter.book ≡ keeper.old.reporter.book }
+    ensures name { keeper.new.held.flusher.commit.name ≡ keeper.old.held.flusher.commit.name }
 {
     match keeper.begin(alloc, version) {
         Ok(()) => end_commit(rt, alloc, shared, keeper),
@@ -122,6 +128,7 @@ fn end_commit<J: BookName, R: Wait + Drop, D: Disk, W: Wait>(
     keeper: &mut Keeper<D>,
 ) -> bool
     requires book { keeper.old.reporter.book ≡ J.book }
+    requires own { keeper.old.held.flusher.commit.name ≡ J.store }
     requires stored { HoldsOfStored D.Disk J.stored (history_of keeper.old.reporter.log) keeper.old.held.flusher }
     requires failed { HoldsOfFailed D.Disk J.failed (history_of keeper.old.reporter.log) keeper.old.held.flusher }
     ensures flushes { IsStoreOf D.Disk (history_of keeper.old.reporter.log) keeper.old.held.flusher
@@ -131,6 +138,7 @@ fn end_commit<J: BookName, R: Wait + Drop, D: Disk, W: Wait>(
     ensures rests { is_busy keeper.new.held.flusher.commit.phase ≡ false }
     ensures ends { result ≡ false → keeper.new.held.flusher.commit.phase ≡ phases.Failed }
     ensures same { keeper.new.reporter.book ≡ keeper.old.reporter.book }
+    ensures name { keeper.new.held.flusher.commit.name ≡ keeper.old.held.flusher.commit.name }
 {
     'calls: for _ in rt.forever() {
         match keeper.step() {

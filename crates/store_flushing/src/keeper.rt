@@ -115,6 +115,7 @@ impl<D: Disk> Keeper<D> {
         ensures keeps { Keeps D.Disk self.old.reporter self.old.held.flusher self.new.reporter self.new.held.flusher }
         ensures notes_stay { KeepsNotes D.Disk self.old self.new }
         ensures stored { self.new.held.flusher.commit.root.version ≡ self.old.held.flusher.commit.root.version }
+        ensures name { self.new.held.flusher.commit.name ≡ self.old.held.flusher.commit.name }
         ensures reporter { self.new.reporter ≡ self.old.reporter }
         ensures notes { self.new.notes ≡ self.old.notes }
         ensures err { OnErr result (self.new ≡ self.old) }
@@ -133,6 +134,7 @@ impl<D: Disk> Keeper<D> {
         ensures notes_stay { KeepsNotes D.Disk self.old self.new }
         ensures stored { self.new.held.flusher.commit.root.version
             ≡ stored_after result self.old.held.flusher.commit.root.version }
+        ensures name { self.new.held.flusher.commit.name ≡ self.old.held.flusher.commit.name }
         ensures counted { IfOk result
             (λ p. Counts p (calls_left self.old.held.flusher.commit) (calls_left self.new.held.flusher.commit)) }
         ensures failed { OnErr result (self.new.held.flusher.commit.phase ≡ phases.Failed) }
@@ -155,6 +157,8 @@ impl<D: Disk> Keeper<D> {
         shared: &Shared<J, R>,
     )
         requires book { self.old.reporter.book ≡ J.book }
+        // The store is the book's own.
+        requires own { self.old.held.flusher.commit.name ≡ J.store }
         requires stored { J.stored self.old.reporter.log self.old.held.flusher.commit.root.version }
         ensures keeps { Keeps D.Disk self.old.reporter self.old.held.flusher self.new.reporter self.new.held.flusher }
         ensures notes_stay { KeepsNotes D.Disk self.old self.new }
@@ -168,7 +172,7 @@ impl<D: Disk> Keeper<D> {
         ensures same { self.new.reporter.book ≡ self.old.reporter.book }
     {
         let was = Snapshot::of(&self.reporter);
-        reports::report(rt, alloc, shared, &mut self.reporter, self.held.stored());
+        reports::report(rt, alloc, shared, &mut self.reporter, &self.held.receipt());
         self.notes.write(&was, &self.reporter, &self.held);
         // What the reporter has seen is a history: the clauses rest on that.
         let _ = self.reporter.given();

@@ -2,6 +2,7 @@
 #![tactic(auto)]
 
 mod book_state;
+pub mod closer;
 mod held_tiles;
 mod locked_book;
 mod pending;

@@ -61,7 +61,8 @@ impl<J: BookName, R: Wait + Drop> LockedBook<J, R> {
         me: &mut Session,
         change: &C,
     ) -> Result<u64, Refused<C::Fault>>
-        requires { me.old.book ≡ J.book }
+        requires book { me.old.book ≡ J.book }
+        requires asked { J.asked me.old.session (C.batch change.now) }
         ensures ok { IfOk result (IsAcceptedIn self.old.log me.old (C.batch change.now) self.new.log me.new) }
         ensures accepted { IfOk result (λ _. IsAfterCommand self.old.state self.new.state) }
         ensures err { IfErr result (λ refused. (self.new.log ≡ self.old.log) × (self.new.state ≡ self.old.state)

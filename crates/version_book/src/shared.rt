@@ -15,6 +15,7 @@ ghost use Rattle.book_lock.specs.Heard.{HasHeard};
 ghost use Rattle.version_book.specs.Store.{has_store};
 ghost use Rattle.version_book.specs.Waits.{IsBuiltAt, IsSyncRefused, IsWaitRefused};
 
+use crate::closer::Closer;
 use crate::closing::ClosedBook;
 use crate::locked_book::LockedBook;
 use crate::locked_book::closing::{begin_close, has_all_of, into_closed};
@@ -45,8 +46,8 @@ pub struct Shared<J: BookName, R: Wait + Drop> {
 }
 
 impl<J: BookName, R: Wait + Drop> Shared<J, R> {
-    /// A book over a log of one version, its reporter and its sessions. Each has seen just that. There is no other session:
-    /// the book's name says for how many it may be begun.
+    /// A book over a log of one version, its reporter, its sessions and the right to close it. Each has seen just that.
+    /// There is no other session: the book's name says for how many it may be begun.
     pub fn start(
         rt: R,
         alloc: Global,
@@ -55,7 +56,7 @@ impl<J: BookName, R: Wait + Drop> Shared<J, R> {
         version: Version,
         store: bool,
         sessions: usize,
-    ) -> Result<(Shared<J, R>, Reporter, Vec<Session>), BookFault>
+    ) -> Result<(Shared<J, R>, Reporter, Vec<Session>, Closer<J>), BookFault>
         requires head { head ≡ head_of J.book }
         requires seen_log { (seen_log.book ≡ J.book) × (seen_log.log ≡ entry no_event version ∷ []) }
         requires sessions { (0 < sessions) × (sessions ≤ 4) }
@@ -73,7 +74,7 @@ impl<J: BookName, R: Wait + Drop> Shared<J, R> {
             turns: Turns::new(LockedBook::new(alloc, log)),
             store,
         };
-        Ok((shared, reporter, list))
+        Ok((shared, reporter, list, Closer::new()))
     }
 
     /// Whether it has a store.
@@ -92,6 +93,8 @@ impl<J: BookName, R: Wait + Drop> Shared<J, R> {
         change: &Command,
     ) -> Result<u64, BookFault>
         requires book { me.old.book ≡ J.book }
+        // Who submits it has to prove that the session was asked for it; a call that never returns owes this too.
+        requires asked { J.asked me.old.session (command change.now ∷ []) }
         ensures goes_on { BeginsWith (seen me.new) (seen me.old) }
         ensures history { IsHistory (seen me.new) }
         ensures ok { IfOk result (λ n. IsAccepted me.old.session (seen me.old) (command change.now ∷ []) (seen me.new) n) }
@@ -114,6 +117,7 @@ impl<J: BookName, R: Wait + Drop> Shared<J, R> {
         batch: &Batch,
     ) -> Result<u64, BatchFault>
         requires book { me.old.book ≡ J.book }
+        requires asked { J.asked me.old.session batch.now }
         ensures goes_on { BeginsWith (seen me.new) (seen me.old) }
         ensures history { IsHistory (seen me.new) }
         ensures ok { IfOk result (λ n. IsAccepted me.old.session (seen me.old) batch.now (seen me.new) n) }
@@ -135,6 +139,7 @@ impl<J: BookName, R: Wait + Drop> Shared<J, R> {
         change: &C,
     ) -> Result<u64, Refused<C::Fault>>
         requires book { me.old.book ≡ J.book }
+        requires asked { J.asked me.old.session (C.batch change.now) }
         ensures begun { 0 < length me.old.log }
         ensures valid { IsLog me.old.log }
         ensures ok { IfOk result (λ n. (log after : List Entry)
@@ -206,9 +211,10 @@ impl<J: BookName, R: Wait + Drop> Shared<J, R> {
         tell_durable(&turn.book, me, number)
     }
 
-    /// From now on commands are refused, no job is handed out, and no call waits for long.
+    /// From now on commands are refused, no job is handed out, and no call waits for long. Who has the right to close the
+    /// book alone can call it, whether that call returns or not.
     // It has no clause: it gives nothing, and that the book closes is said under the lock, by `begin_close` there.
-    pub fn begin_close<W: Wait>(&self, rt: &W) {
+    pub fn begin_close<W: Wait>(&self, rt: &W, _closer: &mut Closer<J>) {
         let mut turn = self.turns.next(rt, TurnKind::Closed);
         begin_close(&mut turn.book);
     }

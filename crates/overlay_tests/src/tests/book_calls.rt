@@ -8,7 +8,10 @@ use layer_book::direct_answer::Place;
 use std::alloc::Global;
 use std::process::Abort;
 use std::sync::Wait;
+use store_receipt::receipt::Receipt;
+use store_receipt::store_name::StoreName;
 use tile_build::Built;
+use version_book::closer::Closer;
 use version_book::fault::BookFault;
 use version_book::job::Job;
 use version_book::reporter::Reporter;
@@ -41,11 +44,15 @@ pub fn answer<J: BookName, R: Wait + Abort>(
     shared: &Shared<J, &R>,
     reporter: &mut Reporter,
     me: &mut Session,
+    closer: &mut Closer<J>,
+    name: &StoreName,
     asked: &Call,
 ) -> Answer
     requires book { (reporter.old.book ≡ J.book) × (me.old.book ≡ J.book) }
+    requires own { name.now ≡ J.store }
     requires anything { (log : _) (number : _) → J.stored log number }
     requires any_fault { (log : _) (fault : _) → J.failed log fault }
+    requires any_change { (session : _) (commands : _) → J.asked session commands }
     ensures { (reporter.new.book ≡ reporter.old.book) × (me.new.book ≡ me.old.book) }
 {
     match asked {
@@ -68,7 +75,10 @@ pub fn answer<J: BookName, R: Wait + Abort>(
         }
         Call::WaitDurable => reported(shared.wait_durable(rt, me)),
         Call::NextVersion => news(rt, shared, reporter),
-        Call::Report(number) => reported(shared.report(rt, alloc, reporter, *number)),
+        Call::Report(number) => {
+            let receipt = Receipt::of(name, *number);
+            reported(shared.report(rt, alloc, reporter, &receipt))
+        }
         Call::StoreFailed(fault) => {
             shared.store_failed(rt, reporter, *fault);
             Ok(None)
@@ -83,7 +93,7 @@ pub fn answer<J: BookName, R: Wait + Abort>(
             Ok(None)
         }
         Call::BeginClose => {
-            shared.begin_close(rt);
+            shared.begin_close(rt, closer);
             Ok(None)
         }
     }

@@ -8,7 +8,9 @@ use crate::tests::book_rows::{Answer, Beside, Call, Late, Row, WaitFor};
 use crate::tests::rows::check;
 use crate::tests::strips::{build_late, give_back_strip};
 use crate::tests::testing::{batch, command, name_of};
-use crate::tests::threads::{Work, ask_beside, beside, news_beside, submit_beside, wait_beside};
+use crate::tests::threads::{
+    Work, ask_beside, beside, news_beside, news_until_closing, submit_beside, wait_beside,
+};
 use crate::tests::tokens::Tokens;
 use std::alloc::Global;
 use std::marker::Brand;
@@ -16,6 +18,7 @@ use std::process::Abort;
 use std::sync::Wait;
 use std::thread::Threads;
 use std::time::Clock;
+use store_receipt::store_name::StoreName;
 use version_book::fault::BookFault;
 use version_book::job::Job;
 use version_book::seen_log::{BookName, LogWord, SeenLog, open};
@@ -41,13 +44,15 @@ pub fn play<R: Threads + Wait + Clock + Abort + Sync>(
     lists: &[&[Row]],
     last: u64,
 ) {
-    play_in::<Brand, R>(rt, alloc, open_history(alloc), store, lists, last);
+    let history = open_history(alloc);
+    play_in::<Brand, R>(rt, alloc, history, StoreName::new(), store, lists, last);
 }
 
 fn play_in<J: BookName + Send + Sync, R: Threads + Wait + Clock + Abort + Sync>(
     rt: &R,
     alloc: Global,
     opened: (LogWord<J>, SeenLog, Version),
+    name: StoreName,
     store: bool,
     lists: &[&[Row]],
     last: u64,
@@ -55,25 +60,31 @@ fn play_in<J: BookName + Send + Sync, R: Threads + Wait + Clock + Abort + Sync>(
     requires head { opened.0 ≡ head_of J.book }
     requires book { opened.1.book ≡ J.book }
     requires begun { opened.1.log ≡ entry no_event opened.2 ∷ [] }
+    requires own { name ≡ J.store }
     requires seats { 2 ≤ J.seats }
     requires anything { (log : _) (number : _) → J.stored log number }
     requires any_fault { (log : _) (fault : _) → J.failed log fault }
+    requires any_change { (session : _) (commands : _) → J.asked session commands }
 {
     let (head, seen_log, version) = opened;
     let started = Shared::<J, &R>::start(rt, alloc, head, seen_log, version, store, 2);
-    let (shared, reporter, mut sessions) = started.expect(rt, "no book");
+    let (shared, reporter, mut sessions, closer) = started.expect(rt, "no book");
     let other = sessions.pop().expect(rt, "no session");
     let me = sessions.pop().expect(rt, "no second session");
     let mut tokens = Tokens {
         reporter,
         me,
         other,
+        closer,
+        name,
     };
     play_lists(rt, alloc, &shared, &mut tokens, lists);
     let Tokens {
         reporter,
         me,
         other,
+        closer: _closer,
+        name: _name,
     } = tokens;
     let closed = shared.into_closed(rt, &reporter, &[me, other]);
     assert!(rt; closed.version.number() == last);
@@ -83,12 +94,13 @@ fn play_lists<J: BookName + Send + Sync, R: Threads + Wait + Clock + Abort + Syn
     rt: &R,
     alloc: Global,
     shared: &Shared<J, &R>,
-    tokens: &mut Tokens,
+    tokens: &mut Tokens<J>,
     lists: &[&[Row]],
 )
     requires book { tokens.old.reporter.book ≡ J.book }
     requires anything { (log : _) (number : _) → J.stored log number }
     requires any_fault { (log : _) (fault : _) → J.failed log fault }
+    requires any_change { (session : _) (commands : _) → J.asked session commands }
     ensures { tokens.new.reporter.book ≡ tokens.old.reporter.book }
 {
     'lists: for rows in lists {
@@ -101,13 +113,14 @@ fn play_rows<J: BookName + Send + Sync, R: Threads + Wait + Clock + Abort + Sync
     rt: &R,
     alloc: Global,
     shared: &Shared<J, &R>,
-    tokens: &mut Tokens,
+    tokens: &mut Tokens<J>,
     rows: &[Row],
     at: usize,
 )
     requires book { tokens.old.reporter.book ≡ J.book }
     requires anything { (log : _) (number : _) → J.stored log number }
     requires any_fault { (log : _) (fault : _) → J.failed log fault }
+    requires any_change { (session : _) (commands : _) → J.asked session commands }
     ensures { tokens.new.reporter.book ≡ tokens.old.reporter.book }
 {
     let Some(row) = rows.get(at) else {
@@ -125,20 +138,27 @@ fn play_row<J: BookName + Send + Sync, R: Threads + Wait + Clock + Abort + Sync>
     rt: &R,
     alloc: Global,
     shared: &Shared<J, &R>,
-    tokens: &mut Tokens,
+    tokens: &mut Tokens<J>,
     row: &Row,
     at: usize,
 ) -> Option<(Job, bool)>
     requires book { tokens.old.reporter.book ≡ J.book }
     requires anything { (log : _) (number : _) → J.stored log number }
     requires any_fault { (log : _) (fault : _) → J.failed log fault }
+    requires any_change { (session : _) (commands : _) → J.asked session commands }
     ensures same { tokens.new.reporter.book ≡ tokens.old.reporter.book }
     ensures job { IfSome result (λ taken. taken.0.book ≡ J.book) }
 {
     match row {
         Row::Calls(asked, want) => {
-            let Tokens { reporter, me, .. } = tokens;
-            let reported = answer(rt, alloc, shared, reporter, me, asked);
+            let Tokens {
+                reporter,
+                me,
+                closer,
+                name,
+                ..
+            } = tokens;
+            let reported = answer(rt, alloc, shared, reporter, me, closer, name, asked);
             check(rt, at, &reported, want);
         }
         Row::SubmitsAll(changes, want) => {
@@ -176,12 +196,13 @@ fn answer_beside<J: BookName + Send + Sync, R: Threads + Wait + Clock + Abort + 
     rt: &R,
     alloc: Global,
     shared: &Shared<J, &R>,
-    tokens: &mut Tokens,
+    tokens: &mut Tokens<J>,
     asked: &Beside,
 ) -> Answer
     requires book { tokens.old.reporter.book ≡ J.book }
     requires anything { (log : _) (number : _) → J.stored log number }
     requires any_fault { (log : _) (fault : _) → J.failed log fault }
+    requires any_change { (session : _) (commands : _) → J.asked session commands }
     ensures { tokens.new.reporter.book ≡ tokens.old.reporter.book }
 {
     match asked {
@@ -207,7 +228,7 @@ fn answer_beside<J: BookName + Send + Sync, R: Threads + Wait + Clock + Abort + 
             let work = match late {
                 Late::Builds => Work::BuildsLate,
                 Late::Submits(change) => Work::SubmitsLate(command(rt, alloc, change)),
-                Late::BeginsToClose => Work::ClosesLate,
+                Late::BeginsToClose => return news_until_closing(rt, shared, tokens),
             };
             news_beside(rt, alloc, shared, tokens, &work)
         }
@@ -220,17 +241,24 @@ fn ask_beside_stale<J: BookName + Send + Sync, R: Threads + Wait + Clock + Abort
     rt: &R,
     alloc: Global,
     shared: &Shared<J, &R>,
-    tokens: &mut Tokens,
+    tokens: &mut Tokens<J>,
     asked: &Call,
 ) -> Answer
     requires book { tokens.old.reporter.book ≡ J.book }
     requires anything { (log : _) (number : _) → J.stored log number }
     requires any_fault { (log : _) (fault : _) → J.failed log fault }
+    requires any_change { (session : _) (commands : _) → J.asked session commands }
     ensures { tokens.new.reporter.book ≡ tokens.old.reporter.book }
 {
     let job = take(rt, alloc, shared).expect(rt, "no tile");
-    let Tokens { reporter, me, .. } = tokens;
-    answer(rt, alloc, shared, reporter, me, asked).expect(rt, "a refusal");
+    let Tokens {
+        reporter,
+        me,
+        closer,
+        name,
+        ..
+    } = tokens;
+    answer(rt, alloc, shared, reporter, me, closer, name, asked).expect(rt, "a refusal");
     let (column, is_kept) = ask_beside(rt, alloc, shared, job);
     assert!(rt; !is_kept);
     Ok(column)

@@ -30,20 +30,27 @@ pub fn build_late<J: BookName, R: Wait + Abort>(
     rt: &R,
     alloc: Global,
     shared: &Shared<J, &R>,
-    tokens: &mut Tokens,
+    tokens: &mut Tokens<J>,
     asked: &Option<Call>,
 ) -> (usize, u64)
     requires book { tokens.old.reporter.book ≡ J.book }
     requires anything { (log : _) (number : _) → J.stored log number }
     requires any_fault { (log : _) (fault : _) → J.failed log fault }
+    requires any_change { (session : _) (commands : _) → J.asked session commands }
     ensures { tokens.new.reporter.book ≡ tokens.old.reporter.book }
 {
     let Some(strip) = take_strip(rt, alloc, shared) else {
         return (0, 0);
     };
     if let Some(asked) = asked {
-        let Tokens { reporter, me, .. } = tokens;
-        answer(rt, alloc, shared, reporter, me, asked).expect(rt, "a refusal");
+        let Tokens {
+            reporter,
+            me,
+            closer,
+            name,
+            ..
+        } = tokens;
+        answer(rt, alloc, shared, reporter, me, closer, name, asked).expect(rt, "a refusal");
     }
     spend(rt, alloc, shared, strip, usize::MAX, false)
 }

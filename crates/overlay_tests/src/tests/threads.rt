@@ -11,6 +11,9 @@ use std::process::Abort;
 use std::sync::Wait;
 use std::thread::{Threads, join_mut, sleep};
 use std::time::{Clock, Duration};
+use store_receipt::receipt::Receipt;
+use store_receipt::store_name::StoreName;
+use version_book::closer::Closer;
 use version_book::fault::BookFault;
 use version_book::job::Job;
 use version_book::reporter::Reporter;
@@ -37,12 +40,10 @@ pub enum Work {
     Waits(Name),
     /// Waits until the newest version that it has seen is durable.
     WaitsDurable,
-    /// Begins to close the book, a tenth of a second late.
-    ClosesLate,
 }
 
 /// Does a work, and returns the numbers of its versions, each above the one before. What asks for a tile returns its
-/// column, where there is one; what builds a tile returns nothing, and neither does what closes the book.
+/// column, where there is one; what builds a tile returns nothing.
 fn carry_out<J: BookName, R: Wait + Clock + Abort>(
     rt: &R,
     alloc: Global,
@@ -50,7 +51,8 @@ fn carry_out<J: BookName, R: Wait + Clock + Abort>(
     me: &mut Session,
     work: &Work,
 ) -> Result<Vec<u64>, BookFault>
-    requires { me.old.book ≡ J.book }
+    requires book { me.old.book ≡ J.book }
+    requires any_change { (session : _) (commands : _) → J.asked session commands }
     ensures { me.new.book ≡ me.old.book }
 {
     let mut list = Vec::new(alloc);
@@ -90,10 +92,6 @@ fn carry_out<J: BookName, R: Wait + Clock + Abort>(
             .push(shared.wait_built(rt, me, name)?)
             .expect(rt, "memory"),
         Work::WaitsDurable => list.push(shared.wait_durable(rt, me)?).expect(rt, "memory"),
-        Work::ClosesLate => {
-            sleep(rt, Duration::from_millis(100));
-            shared.begin_close(rt);
-        }
     }
     Ok(list)
 }
@@ -106,7 +104,8 @@ fn submit<J: BookName, R: Wait>(
     me: &mut Session,
     change: &Command,
 ) -> Result<u64, BookFault>
-    requires { me.old.book ≡ J.book }
+    requires book { me.old.book ≡ J.book }
+    requires any_change { (session : _) (commands : _) → J.asked session commands }
     ensures { me.new.book ≡ me.old.book }
 {
     shared.submit(rt, alloc, me, change)
@@ -171,10 +170,11 @@ pub fn news_beside<J: BookName + Send + Sync, R: Threads + Wait + Clock + Abort 
     rt: &R,
     alloc: Global,
     shared: &Shared<J, &R>,
-    tokens: &mut Tokens,
+    tokens: &mut Tokens<J>,
     work: &Work,
 ) -> Answer
-    requires { tokens.old.reporter.book ≡ J.book }
+    requires book { tokens.old.reporter.book ≡ J.book }
+    requires any_change { (session : _) (commands : _) → J.asked session commands }
     ensures { tokens.new.reporter.book ≡ tokens.old.reporter.book }
 {
     let Tokens { reporter, me, .. } = tokens;
@@ -182,6 +182,33 @@ pub fn news_beside<J: BookName + Send + Sync, R: Threads + Wait + Clock + Abort 
         rt,
         &mut || news(rt, shared, reporter),
         &mut || carry_out(rt, alloc, shared, me, work),
+    );
+    reported
+}
+
+/// The number of the version that the reporter is given, who waits for news in a thread of its own while the book begins
+/// to close, a tenth of a second late.
+// Where there is no memory for a thread, the book closes first.
+pub fn news_until_closing<J: BookName + Send + Sync, R: Threads + Wait + Clock + Abort + Sync>(
+    rt: &R,
+    shared: &Shared<J, &R>,
+    tokens: &mut Tokens<J>,
+) -> Answer
+    requires { tokens.old.reporter.book ≡ J.book }
+    ensures { tokens.new.reporter.book ≡ tokens.old.reporter.book }
+{
+    let Tokens {
+        reporter,
+        closer,
+        ..
+    } = tokens;
+    let (reported, ()) = join_mut(
+        rt,
+        &mut || news(rt, shared, reporter),
+        &mut || {
+            sleep(rt, Duration::from_millis(100));
+            shared.begin_close(rt, closer);
+        },
     );
     reported
 }
@@ -197,7 +224,8 @@ pub fn beside<J: BookName + Send + Sync, R: Threads + Wait + Clock + Abort + Syn
     first: &Work,
     second: &Work,
 ) -> (Result<Vec<u64>, BookFault>, Result<Vec<u64>, BookFault>)
-    requires { (one.old.book ≡ J.book) × (two.old.book ≡ J.book) }
+    requires book { (one.old.book ≡ J.book) × (two.old.book ≡ J.book) }
+    requires any_change { (session : _) (commands : _) → J.asked session commands }
     ensures { (one.new.book ≡ one.old.book) × (two.new.book ≡ two.old.book) }
 {
     join_mut(
@@ -213,24 +241,27 @@ pub fn wait_beside<J: BookName + Send + Sync, R: Threads + Wait + Clock + Abort 
     rt: &R,
     alloc: Global,
     shared: &Shared<J, &R>,
-    tokens: &mut Tokens,
+    tokens: &mut Tokens<J>,
     wait: &Work,
     asked: &Call,
 ) -> (Result<Vec<u64>, BookFault>, Answer)
     requires book { tokens.old.reporter.book ≡ J.book }
     requires anything { (log : _) (number : _) → J.stored log number }
     requires any_fault { (log : _) (fault : _) → J.failed log fault }
+    requires any_change { (session : _) (commands : _) → J.asked session commands }
     ensures { tokens.new.reporter.book ≡ tokens.old.reporter.book }
 {
     let Tokens {
         reporter,
         me,
         other,
+        closer,
+        name,
     } = tokens;
     join_mut(
         rt,
         &mut || carry_out(rt, alloc, shared, me, wait),
-        &mut || late(rt, alloc, shared, reporter, other, asked),
+        &mut || late(rt, alloc, shared, reporter, other, closer, name, asked),
     )
 }
 
@@ -241,15 +272,19 @@ fn late<J: BookName, R: Wait + Clock + Abort>(
     shared: &Shared<J, &R>,
     reporter: &mut Reporter,
     other: &mut Session,
+    closer: &mut Closer<J>,
+    name: &StoreName,
     asked: &Call,
 ) -> Answer
     requires book { (reporter.old.book ≡ J.book) × (other.old.book ≡ J.book) }
+    requires own { name.now ≡ J.store }
     requires anything { (log : _) (number : _) → J.stored log number }
     requires any_fault { (log : _) (fault : _) → J.failed log fault }
+    requires any_change { (session : _) (commands : _) → J.asked session commands }
     ensures { (reporter.new.book ≡ reporter.old.book) × (other.new.book ≡ other.old.book) }
 {
     sleep(rt, Duration::from_millis(100));
-    answer(rt, alloc, shared, reporter, other, asked)
+    answer(rt, alloc, shared, reporter, other, closer, name, asked)
 }
 
 /// Reports the number of each version that the reporter is given, until the book closes, and returns the last one.
@@ -258,10 +293,13 @@ fn report_all<J: BookName, R: Wait + Abort>(
     alloc: Global,
     shared: &Shared<J, &R>,
     reporter: &mut Reporter,
+    name: &StoreName,
 ) -> Answer
     requires book { reporter.old.book ≡ J.book }
+    requires own { name.now ≡ J.store }
     requires anything { (log : _) (number : _) → J.stored log number }
     requires any_fault { (log : _) (fault : _) → J.failed log fault }
+    requires any_change { (session : _) (commands : _) → J.asked session commands }
     ensures { reporter.new.book ≡ reporter.old.book }
 {
     let mut last = None;
@@ -271,7 +309,8 @@ fn report_all<J: BookName, R: Wait + Abort>(
         };
         let number = version.number();
         assert!(rt; last < Some(number));
-        last = Some(shared.report(rt, alloc, reporter, number)?);
+        let receipt = Receipt::of(name, number);
+        last = Some(shared.report(rt, alloc, reporter, &receipt)?);
         assert!(rt; last == Some(number));
     }
     unreachable!()
@@ -297,13 +336,15 @@ fn beside_until_closing<J: BookName + Send + Sync, R: Threads + Wait + Clock + A
     shared: &Shared<J, &R>,
     one: &mut Session,
     two: &mut Session,
+    closer: &mut Closer<J>,
     works: &(Work, Work),
 ) -> (Result<Vec<u64>, BookFault>, Result<Vec<u64>, BookFault>)
-    requires { (one.old.book ≡ J.book) × (two.old.book ≡ J.book) }
+    requires book { (one.old.book ≡ J.book) × (two.old.book ≡ J.book) }
+    requires any_change { (session : _) (commands : _) → J.asked session commands }
     ensures { (one.new.book ≡ one.old.book) × (two.new.book ≡ two.old.book) }
 {
     let done = beside(rt, alloc, shared, one, two, &works.0, &works.1);
-    shared.begin_close(rt);
+    shared.begin_close(rt, closer);
     done
 }
 
@@ -314,28 +355,32 @@ pub fn submit_beside<J: BookName + Send + Sync, R: Threads + Wait + Clock + Abor
     rt: &R,
     alloc: Global,
     shared: &Shared<J, &R>,
-    tokens: &mut Tokens,
+    tokens: &mut Tokens<J>,
     first: Command,
     second: Command,
 ) -> (u64, Answer)
     requires book { tokens.old.reporter.book ≡ J.book }
     requires anything { (log : _) (number : _) → J.stored log number }
     requires any_fault { (log : _) (fault : _) → J.failed log fault }
+    requires any_change { (session : _) (commands : _) → J.asked session commands }
     ensures { tokens.new.reporter.book ≡ tokens.old.reporter.book }
 {
     let Tokens {
         reporter,
         me: one,
         other: two,
+        closer,
+        name,
     } = tokens;
     let from = one.snapshot().expect(rt, "no version").number();
     let works = (Work::Submits(first), Work::Submits(second));
     let (reported, (ours, theirs)) = join_mut(
         rt,
-        &mut || report_all(rt, alloc, shared, reporter),
+        &mut || report_all(rt, alloc, shared, reporter, name),
         &mut ||
-            requires { (one.now.book ≡ J.book) × (two.now.book ≡ J.book) }
-        { beside_until_closing(rt, alloc, shared, one, two, &works) },
+            requires book { (one.now.book ≡ J.book) × (two.now.book ≡ J.book) }
+            requires any_change { (session : _) (commands : _) → J.asked session commands }
+        { beside_until_closing(rt, alloc, shared, one, two, closer, &works) },
     );
     let ours = ours.expect(rt, "no numbers of the first");
     let theirs = theirs.expect(rt, "no numbers of the second");

@@ -46,10 +46,11 @@ where
     requires book { history.1.book ≡ J.book }
     requires begun { history.1.log ≡ entry no_event history.2 ∷ [] }
     requires seats { 1 ≤ J.seats }
+    requires any_change { (session : _) (commands : _) → J.asked session commands }
 {
     let (head, seen_log, version) = history;
     let started = Shared::<J, &Q>::start(rt, alloc, head, seen_log, version, false, 1);
-    let (shared, reporter, mut sessions) = started.expect(rt, "no book");
+    let (shared, reporter, mut sessions, _closer) = started.expect(rt, "no book");
     let mut me = sessions.pop().expect(rt, "no session");
     let end = session_run(rt, alloc, &shared, &mut me, reader, writer);
     let sessions = Vec::from_array(alloc, [me]).expect(rt, "no memory");

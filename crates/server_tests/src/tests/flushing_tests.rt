@@ -4,6 +4,7 @@ ghost use Rattle.overlay_terms.specs.Histories.{Entry};
 ghost use Rattle.book_history.specs.Logs.{entry, no_event};
 ghost use Rattle.book_history.specs.Rules.{head_of};
 ghost use Rattle.book_history.specs.declared.fault.ReportedFault.{ReportedFault};
+ghost use Rattle.kept_store.specs.Beginning.{name_in};
 
 use crate::tests::testing::{BLOCKS, begun_of, empty_disk, reopened};
 use disk_model::disk::Disk;
@@ -54,19 +55,21 @@ where
     requires head { history.0 ≡ head_of J.book }
     requires book { history.1.book ≡ J.book }
     requires own { store.seen_log.book ≡ J.book }
+    requires mine { J.store ≡ name_in store.flusher }
     requires begun { history.1.log ≡ entry no_event history.2 ∷ [] }
     requires stored { (log : List Entry) (number : ℕ) → J.stored log number }
     requires failed { (log : List Entry) (fault : ReportedFault) → J.failed log fault }
     requires seats { 1 ≤ J.seats }
+    requires any_change { (session : _) (commands : _) → J.asked session commands }
 {
     let (head, seen_log, version) = history;
     let started = Shared::<J, &Q>::start(rt, alloc, head, seen_log, version, true, 1);
-    let (shared, reporter, mut sessions) = started.expect(rt, "no book");
+    let (shared, reporter, mut sessions, mut closer) = started.expect(rt, "no book");
     let mut me = sessions.pop().expect(rt, "no session");
     let mut reader = script;
     let mut writer = Vec::new(alloc);
     let _end = session_run(rt, alloc, &shared, &mut me, &mut reader, &mut writer);
-    shared.begin_close(rt);
+    shared.begin_close(rt, &mut closer);
     let store = store.into_store().expect(rt, "no store");
     let (reporter, store, notes) = flusher_loop(
         rt,

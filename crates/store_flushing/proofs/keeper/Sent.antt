@@ -14,6 +14,7 @@ use Rattle.commit_plan.proofs.write.Write.TheSendSync as writes
 use Rattle.commit_plan.specs.contracts.live_records.LiveRecords as live
 use Rattle.root_store.proofs.phase.Phase.TheSendSync as phases
 use Rattle.root_store.specs.contracts.commit.Commit as commit
+use Rattle.store_receipt.proofs.store_name.StoreName.TheSendSync as names
 use Rattle.flush_core.specs.contracts.flusher.Flusher as flusher
 use Rattle.version_book.proofs.Sent.{reporter_send}
 use Rattle.store_flushing.proofs.keeper.report_log.ReportLog.TheSendSync as fault_texts
@@ -33,14 +34,17 @@ module _ (D : RattleType) (g : Ghosts D.Denot) (d : IsSend D) where
   commit_send = struct_send (shape (commit.the_type D g)) (
     d,
     (
-      roots.the_field_send,
+      names.the_send,
       (
-        live_send,
+        roots.the_field_send,
         (
-          phases.the_field_send,
+          live_send,
           (
-            roots.the_field_send,
-            (live_send, (search (sendable, crosses, writes.the_send) depth 20, (plain_send _ _ _ _ _, tt))),
+            phases.the_field_send,
+            (
+              roots.the_field_send,
+              (live_send, (search (sendable, crosses, writes.the_send) depth 20, (plain_send _ _ _ _ _, tt))),
+            ),
           ),
         ),
       ),

@@ -31,6 +31,7 @@ pub fn flusher_loop<J: BookName, R: Wait + Drop, D: Disk, W: Wait>(
     requires book { reporter.book ≡ J.book }
     // The store is this book's own.
     requires own { reporter.book ≡ store.seen_log.book }
+    requires name { store.flusher.commit.name ≡ J.store }
     // What this store holds may be reported durable, whenever it is reported.
     requires stored { HoldsOfStored D.Disk J.stored (history_of reporter.log) store.flusher }
     // For what it fails may be reported, too.
@@ -40,6 +41,7 @@ pub fn flusher_loop<J: BookName, R: Wait + Drop, D: Disk, W: Wait>(
     ensures rests { is_busy result.1.flusher.commit.phase ≡ false }
     ensures same { result.0.book ≡ reporter.book }
     ensures own { result.1.seen_log.book ≡ result.0.book }
+    ensures name { result.1.flusher.commit.name ≡ store.flusher.commit.name }
     // What it reports durable is written down at once, and from that moment on a crash leaves no older version.
     ensures reported { IsStoreOf D.Disk (history_of reporter.log) store.flusher
         → NotesGoOn D.Disk (history_of reporter.log) (notes_in notes) store.flusher.commit.disk

@@ -13,18 +13,20 @@ use book_lock::reporter::Reporter;
 use book_lock::room::Room;
 use std::alloc::Global;
 use std::sync::Wait;
+use store_receipt::receipt::Receipt;
 
-/// Reports a number durable: one entry, or none. It answers the durable number then. Memory for the next report is
+/// Reports the number of a receipt durable: one entry, or none. It answers the durable number then. Memory for the next report is
 /// taken ahead, where there is some.
 pub(crate) fn report<J: BookName, R: Wait + Drop>(
     locked: &mut LockedBook<J, R>,
     alloc: Global,
     me: &mut Reporter,
-    number: u64,
+    receipt: &Receipt,
 ) -> Result<u64, BookFault>
     requires book { me.old.book ≡ J.book }
-    requires stored { J.stored me.old.log number }
-    ensures ok { IfOk result (λ m. IsReportedIn locked.old.log number locked.new.log
+    requires own { receipt.now.store ≡ J.store }
+    requires stored { J.stored me.old.log receipt.now.number }
+    ensures ok { IfOk result (λ m. IsReportedIn locked.old.log receipt.now.number locked.new.log
         × ((newest_in locked.new.log).durable ≡ m)) }
     ensures seen { IfOk result (λ _. HasHeard locked.old.log me.old
         × (me.new ≡ record { book = me.old.book; log = locked.new.log; given = me.old.given })
@@ -35,7 +37,7 @@ pub(crate) fn report<J: BookName, R: Wait + Drop>(
         × ((fault ≡ no_memory) ⊎ (fault ≡ BookFault.Gone))) }
     ensures heard { result ≡ Err no_memory → HasHeard locked.old.log me.old }
 {
-    let durable = locked.log.report(alloc, &mut locked.room, me, number);
+    let durable = locked.log.report(alloc, &mut locked.room, me, receipt);
     if durable.is_ok() {
         locked.room = Room::new(alloc);
     }

@@ -15,6 +15,7 @@ use book_history::seen_log::BookName;
 use book_lock::reporter::Reporter;
 use std::alloc::Global;
 use std::sync::{Arc, Wait};
+use store_receipt::receipt::Receipt;
 use versions::Version;
 
 impl<J: BookName, R: Wait + Drop> Shared<J, R> {
@@ -43,28 +44,29 @@ impl<J: BookName, R: Wait + Drop> Shared<J, R> {
         tell_news(&turn.book, me)
     }
 
-    /// Reports a number durable, and answers the durable number then.
+    /// Reports the number of a receipt durable, and answers the durable number then. The receipt is of the book's own store.
     pub fn report<W: Wait>(
         &self,
         rt: &W,
         alloc: Global,
         me: &mut Reporter,
-        number: u64,
+        receipt: &Receipt,
     ) -> Result<u64, BookFault>
         requires book { me.old.book ≡ J.book }
-        requires stored { J.stored me.old.log number }
+        requires own { receipt.now.store ≡ J.store }
+        requires stored { J.stored me.old.log receipt.now.number }
         ensures goes_on { BeginsWith (history_of me.new.log) (history_of me.old.log) }
         ensures history { IsHistory (history_of me.new.log) }
         ensures ok { IfOk result (λ m. (newest_in me.new.log).durable ≡ m) }
-        ensures reported { IfOk result (λ _. IsReportedBy me.old number me.new.log) }
-        ensures reached { IfOk result (λ m. number ≤ (newest_in me.old.log).number → number ≤ m) }
+        ensures reported { IfOk result (λ _. IsReportedBy me.old receipt.now.number me.new.log) }
+        ensures reached { IfOk result (λ m. receipt.now.number ≤ (newest_in me.old.log).number → receipt.now.number ≤ m) }
         ensures err { IfErr result (λ fault. (me.new ≡ me.old) × ((fault ≡ no_memory) ⊎ (fault ≡ BookFault.Gone))) }
         ensures same { (me.new.book ≡ me.old.book) × (me.new.given ≡ me.old.given) }
     {
         // What the reporter has seen is a log with a first entry: the clauses rest on that.
         let _ = me.given();
         let mut turn = self.turns.next(rt, TurnKind::Reported);
-        report(&mut turn.book, alloc, me, number)
+        report(&mut turn.book, alloc, me, receipt)
     }
 
     /// The store reported a fault: the reporter rests until a command is accepted.

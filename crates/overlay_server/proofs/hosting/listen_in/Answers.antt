@@ -1,7 +1,9 @@
 use Rattle.std.proofs.Common.{rules, ◌≡◌, ◌∙◌, ap, length, subst, sym}
 use Rattle.book_lock.proofs.Beginning.{count_of}
 use Rattle.session_threads.specs.Fuse.{until_end}
+use Rattle.kept_store.specs.Beginning.{name_in}
 use Rattle.store_flushing.specs.Stores.{flusher_in}
+use Rattle.overlay_server.specs.Asking.{IsAsked}
 use Rattle.overlay_server.specs.Given.{bytes_of, given_by, given_to}
 use Rattle.overlay_server.specs.Hosting.{IsHosted}
 use Rattle.overlay_server.specs.Refusing.{IsRefusedFrom}
@@ -30,6 +32,9 @@ run-requires-clause-from g c κs within =
     let sessions = c.in_ok-hosted.ensures.hosted.sessions in
     beside_any ports c.in_ok-hosted.hosted.sessions.items (λ port me. tt) (c.in-Some.ensures.count ∙ sym count ∙ sym (ap length sessions ∙ count_of _ c.len.result))
 
+pub run-requires-clause-mine : goal.run-requires-clause-mine
+run-requires-clause-mine g c κs within = c.requires.mine ∙ ap name_in (sym c.in_ok-hosted.ensures.flusher)
+
 pub run-requires-clause-meant : goal.run-requires-clause-meant
 run-requires-clause-meant g c κs within =
     let hosted = c.in_ok-hosted in
@@ -41,6 +46,9 @@ run-requires-clause-failed g c κs within =
     let hosted = c.in_ok-hosted in
     subst (λ v. FailsAs g.D.Disk g.J.BookName.failed v (flusher_in hosted.hosted.store)) (sym hosted.ensures.version)
     (subst (FailsAs g.D.Disk g.J.BookName.failed c.args.version) (sym hosted.ensures.flusher) c.requires.failed)
+
+pub run-requires-clause-asked : goal.run-requires-clause-asked
+run-requires-clause-asked g c κs within = subst (IsAsked g.J.BookName.asked) (sym c.in-Some.ensures.given) c.requires.asked
 
 pub returns-in-Ok-clause-left : goal.returns-in-Ok-clause-left
 returns-in-Ok-clause-left g c =

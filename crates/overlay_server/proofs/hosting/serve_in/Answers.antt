@@ -4,6 +4,7 @@ use Rattle.book_history.specs.Known.{Known}
 use Rattle.book_lock.specs.Steps.{beginners}
 use Rattle.overlay_terms.specs.Histories.{History}
 use Rattle.script_form.specs.Transcript.{StoreReport}
+use Rattle.kept_store.specs.Beginning.{name_in}
 use Rattle.store_flushing.specs.Stores.{flusher_in}
 use Rattle.overlay_server.specs.Given.{given_to}
 use Rattle.overlay_server.specs.Hosting.{IsHosted}
@@ -17,6 +18,9 @@ pub run-requires-clause-hosted : goal.run-requires-clause-hosted
 run-requires-clause-hosted g c κs within =
     let count : c.len.result ≡ length c.args.ports.items = search rules in
     subst (λ n. IsHosted g.J.BookName.book n c.in-Ok.hosted) count c.in-Ok.ensures.hosted
+
+pub run-requires-clause-mine : goal.run-requires-clause-mine
+run-requires-clause-mine g c κs within = c.requires.mine ∙ ap name_in (sym c.in-Ok.ensures.flusher)
 
 pub run-requires-clause-meant : goal.run-requires-clause-meant
 run-requires-clause-meant g c κs within =

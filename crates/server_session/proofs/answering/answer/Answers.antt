@@ -1,4 +1,5 @@
 use Rattle.server_session.proofs.AnswerLemmas.{ends_alone, ends_none, ends_whole, takes_waiting, takes_alone, takes_whole}
+use Rattle.server_session.proofs.Asked.{asks_alone, asks_whole}
 use Rattle.server_session.proofs.Replies.{answer_right}
 use Rattle.server_session.proofs.answering.answer.Goals as goal
 
@@ -22,3 +23,9 @@ returns-in-Whole-clause-takes g c = takes_whole _ c.args.me.now c.answer_batch.n
 
 pub returns-in-Whole-clause-ends : goal.returns-in-Whole-clause-ends
 returns-in-Whole-clause-ends g c = ends_whole c.args.me.now c.answer_batch.new.me _ _ c.args.line.now _ c.answer_batch.result c.in-Whole.ensures
+
+pub answer_alone-requires-clause-asked : goal.answer_alone-requires-clause-asked
+answer_alone-requires-clause-asked g c κs within = asks_alone (g.J.BookName.asked c.args.me.now.session) _ _ c.args.line.now _ c.in-Alone.ensures c.requires.asked
+
+pub answer_batch-requires-clause-asked : goal.answer_batch-requires-clause-asked
+answer_batch-requires-clause-asked g c = asks_whole (g.J.BookName.asked c.args.me.now.session) _ _ c.args.line.now _ c.in-Whole.ensures c.requires.asked

@@ -9,3 +9,6 @@ returns-in_err-change g c =
 
 pub returns : goal.returns
 returns g c = answers_define _ c.args.me.now c.submit.new.me c.args.name.now c.args.text.now _ _ c.in_ok-change.ensures.ok c.submit.ensures
+
+pub submit-requires-clause-asked : goal.submit-requires-clause-asked
+submit-requires-clause-asked g c = c.requires.asked _ c.in_ok-change.ensures.ok

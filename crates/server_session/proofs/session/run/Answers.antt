@@ -1,5 +1,7 @@
-use Rattle.std.proofs.Common.{◌≡◌, ◌+◌, ◌≤◌, inr, refl, sym, arith, rules, ◌∙◌}
+use Rattle.std.proofs.Common.{◌≡◌, ◌+◌, ◌≤◌, inr, refl, sym, subst, take, arith, rules, ◌∙◌}
 use Rattle.version_book.specs.Store.{has_store}
+use Rattle.server_session.specs.Asking.{MayAskLast, MayAskNext}
+use Rattle.server_session.proofs.Asked.{asks_read, asks_rest}
 use Rattle.server_session.proofs.Endings.{begins, goes_on, ends-finished, ends-at_read, ends-past_limit, ends-stopped, past_most, reads_none, when_err, when_ok}
 use Rattle.server_session.proofs.Left.{may_report-on, reads_first, reads_last, reads_next, reads_on, some_then}
 use Rattle.server_session.proofs.Turns.{stays_self, stays_trans}
@@ -106,3 +108,18 @@ pub take-reported-requires-clause-own : goal.take-reported-requires-clause-own
 take-reported-requires-clause-own g c κs within =
     let short : c.loop-taken.taken ≤ c.args.most = c.loop-taken-test.true in
     some_then _ (reads_next c.args.most c.loop-taken.taken c.in-Ok.count c.min-allowed.result c.read_chunk.new.chunk _ _ short c.min-allowed.ensures c.in-Ok.ensures.bytes c.loop-taken.state) c.loop-taken.invariant.own
+
+pub take-reported-requires-clause-asked : goal.take-reported-requires-clause-asked
+take-reported-requires-clause-asked g c κs within =
+    let short : c.loop-taken.taken ≤ c.args.most = c.loop-taken-test.true in
+    subst (λ s. MayAskNext (g.J.BookName.asked s) c.loop-taken.state (take c.min-allowed.result c.read_chunk.new.chunk)) (sym c.loop-taken.invariant.stays.session)
+    (asks_read (g.J.BookName.asked c.args.me.now.session) c.args.most _ c.args.me.now _ (g.R.Read.remaining c.loop-taken.reader) _ (g.W.ReplyWriter.contents c.loop-taken.writer) c.loop-taken.taken c.loop-taken.state c.loop-taken.me
+    c.loop-taken.invariant.way short (g.R.Read.remaining c.read_chunk.new.reader) c.in-Ok.count c.min-allowed.result c.read_chunk.new.chunk c.min-allowed.ensures c.in-Ok.ensures.bytes c.requires.asked)
+
+pub finish-requires-clause-asked : goal.finish-requires-clause-asked
+finish-requires-clause-asked g c κs within =
+    let short : c.loop-taken.taken ≤ c.args.most = c.loop-taken-test.true in
+    subst (λ s. MayAskLast (g.J.BookName.asked s) c.loop-taken.state) (sym c.loop-taken.invariant.stays.session)
+    (asks_rest (g.J.BookName.asked c.args.me.now.session) c.args.most _ c.args.me.now _ (g.R.Read.remaining c.loop-taken.reader) _ (g.W.ReplyWriter.contents c.loop-taken.writer) c.loop-taken.taken c.loop-taken.state c.loop-taken.me
+    c.loop-taken.invariant.way short (g.R.Read.remaining c.read_chunk.new.reader)
+    (reads_none _ _ c.in-Ok-eq0.field-0 c.read_chunk.new.chunk c.in-Ok-eq0.field-0-test c.in-Ok-eq0.ensures.bytes) (c.in-Ok-eq0.ensures.at_end c.in-Ok-eq0.field-0-test) c.requires.asked)

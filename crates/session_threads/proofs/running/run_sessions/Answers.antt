@@ -5,6 +5,7 @@ use Rattle.std.specs.Vec.Iter.{into_iter_items}
 use Rattle.overlay_terms.proofs.Lists.{in_middle}
 use Rattle.version_book.specs.Store.{has_store}
 use Rattle.session_threads.specs.Rooms.{IsReserved}
+use Rattle.server_session.specs.Asking.{MayAskAll}
 use Rattle.server_session.specs.Replying.{IsAtStart, IsPastMost, MayReport}
 use Rattle.server_session.specs.Stores.{store_of}
 use Rattle.session_threads.specs.declared.running.Script.{Script}
@@ -35,6 +36,14 @@ start_session-requires-clause-own g c κs within =
     let parts = ap (λ ss. at.yielded ++ ss) (sym c.in-Some.ensures.steps.0) ∙ at.invariant.all ∙ c.into_iter-script-iterator.ensures.into_iter_gives.0 in
     let so : Script _ _ → Type 0 = λ script. IfSome (g.W.ReplyWriter.left script.port.writer) (IsAtStart (g.R.Read.remaining script.port.reader)) in
     in_middle so at.yielded c.in-Some.script rest (subst (All so) (sym parts) c.requires.own)
+
+pub start_session-requires-clause-asked : goal.start_session-requires-clause-asked
+start_session-requires-clause-asked g c κs within =
+    let at = c.loop-script in
+    let rest = into_iter_items c.next.new.self in
+    let parts = ap (λ ss. at.yielded ++ ss) (sym c.in-Some.ensures.steps.0) ∙ at.invariant.all ∙ c.into_iter-script-iterator.ensures.into_iter_gives.0 in
+    let so : Script _ _ → Type 0 = λ script. MayAskAll (g.J.BookName.asked script.session.session) (g.R.Read.remaining script.port.reader) in
+    in_middle so at.yielded c.in-Some.script rest (subst (All so) (sym parts) c.requires.asked)
 
 pub start_session-requires-clause-limit : goal.start_session-requires-clause-limit
 start_session-requires-clause-limit g c κs within =

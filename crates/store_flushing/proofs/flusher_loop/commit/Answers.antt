@@ -51,7 +51,7 @@ end_commit-requires-clause-stored g c =
     let mid = c.begin.new.self in
     let h = history_of old.reporter.log in
     let m = history_of mid.reporter.log in
-    handed_on d g.J.BookName.stored h m old.held.flusher mid.held.flusher (λ is. by_call d h m old.held.flusher mid.held.flusher (c.begin.ensures.keeps is)) c.requires.stored
+    handed_on d g.J.BookName.stored h m old.held.flusher mid.held.flusher (λ is. by_call d h m old.held.flusher mid.held.flusher c.begin.ensures.name (c.begin.ensures.keeps is)) c.requires.stored
 
 pub end_commit-requires-clause-failed : goal.end_commit-requires-clause-failed
 end_commit-requires-clause-failed g c =
@@ -61,7 +61,7 @@ end_commit-requires-clause-failed g c =
     let h = history_of old.reporter.log in
     let m = history_of mid.reporter.log in
     failed_on d g.J.BookName.failed h m old.held.flusher mid.held.flusher
-    (λ is. let kept = c.begin.ensures.keeps is in (by_call d h m old.held.flusher mid.held.flusher kept, kept.by_device, kept.blocks)) c.requires.failed
+    (λ is. let kept = c.begin.ensures.keeps is in (by_call d h m old.held.flusher mid.held.flusher c.begin.ensures.name kept, kept.by_device, kept.blocks)) c.requires.failed
 
 pub report_fault-requires-clause-failed : goal.report_fault-requires-clause-failed
 report_fault-requires-clause-failed g c =
@@ -78,7 +78,7 @@ report_fault-requires-clause-failed g c =
     let kept = c.begin.ensures.keeps is in
     record {
       store = mid.held.flusher;
-      followed = by_call d h m old.held.flusher mid.held.flusher kept;
+      followed = by_call d h m old.held.flusher mid.held.flusher c.begin.ensures.name kept;
       by_device = kept.by_device;
       blocks = kept.blocks;
       fails = subst (λ (v : Version). FailsToWrite old.held.flusher mid.held.flusher v fault) newest (subst (λ (k : Keeper g.row.D.Denot g.D.Disk). FailsToWrite old.held.flusher k.held.flusher c.args.version.now fault) (sym c.in-Err.ensures.err) refused);

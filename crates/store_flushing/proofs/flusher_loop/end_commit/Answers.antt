@@ -20,6 +20,7 @@ calls-init g c =
       refl,
       λ is. begun g.D.Disk (history_of c.args.keeper.now.reporter.log) s (λ f left. g.met.D.Disk.only_now s.commit.disk f is.honest left) is,
       reporting_self g.D.Disk c.args.keeper.now,
+      refl,
     )
 
 pub calls-preserved : goal.calls-preserved
@@ -39,6 +40,7 @@ calls-preserved g c = (
       then d (history_of first.reporter.log) m n first.held.flusher mid.held.flusher new.held.flusher was
       (kept_on d m n mid.held.flusher new.held.flusher (e.keeps was.store) same stored),
   reporting_then g.D.Disk c.args.keeper.now c.calls.keeper c.step.new.self c.calls.invariant.2 (λ is. (c.calls.invariant.1 is).store) c.step.ensures.notes_stay,
+  c.step.ensures.name ∙ c.calls.invariant.3,
 )
 
 pub returns-in-Ok-Idle-clause-flushes : goal.returns-in-Ok-Idle-clause-flushes
@@ -116,8 +118,8 @@ report-requires-clause-stored g c =
     c.requires.stored done.reporter.log done.held.flusher
     (λ is.
     let was = c.calls.invariant.1 is in
-    further d h m n first.held.flusher mid.held.flusher done.held.flusher (by_run d h m first.held.flusher mid.held.flusher was)
-    (by_call d m n mid.held.flusher done.held.flusher (c.step.ensures.keeps was.store)))
+    further d h m n first.held.flusher mid.held.flusher done.held.flusher (by_run d h m first.held.flusher mid.held.flusher c.calls.invariant.3 was)
+    (by_call d m n mid.held.flusher done.held.flusher c.step.ensures.name (c.step.ensures.keeps was.store)))
 
 pub report_fault-requires-clause-failed : goal.report_fault-requires-clause-failed
 report_fault-requires-clause-failed g c =
@@ -132,9 +134,9 @@ report_fault-requires-clause-failed g c =
     c.requires.failed new.reporter.log fault (λ is.
     let run = c.calls.invariant.1 is in
     let kept = c.step.ensures.keeps run.store in
-    failed_then d h m first.held.flusher mid.held.flusher new.reporter.log fault (by_run d h m first.held.flusher mid.held.flusher run, run.by_device, run.blocks) (record {
+    failed_then d h m first.held.flusher mid.held.flusher new.reporter.log fault (by_run d h m first.held.flusher mid.held.flusher c.calls.invariant.3 run, run.by_device, run.blocks) (record {
       store = new.held.flusher;
-      followed = by_call d m n mid.held.flusher new.held.flusher kept;
+      followed = by_call d m n mid.held.flusher new.held.flusher c.step.ensures.name kept;
       by_device = kept.by_device;
       blocks = kept.blocks;
       fails = step_fails d mid.held.flusher new.held.flusher (newest_in new.reporter.log) c.in-Err.fault c.in-Err.ensures.failed

@@ -12,6 +12,7 @@ rounds-init g c =
       refl,
       λ is. begun g.D.Disk (history_of c.args.keeper.now.reporter.log) s (λ f left. g.met.D.Disk.only_now s.commit.disk f is.honest left) is,
       reporting_self g.D.Disk c.args.keeper.now,
+      refl,
     )
 
 pub rounds-preserved : goal.rounds-preserved
@@ -25,6 +26,7 @@ rounds-preserved g c = (
       then g.D.Disk (history_of first.reporter.log) (history_of mid.reporter.log) (history_of new.reporter.log) first.held.flusher mid.held.flusher new.held.flusher was
       (c.round.ensures.flushes was.store),
   reporting_then g.D.Disk c.args.keeper.now c.rounds.keeper c.round.new.keeper c.rounds.invariant.2 (λ is. (c.rounds.invariant.1 is).store) c.round.ensures.notes_stay,
+  c.round.ensures.name ∙ c.rounds.invariant.3,
 )
 
 pub returns-then-not-round-clause-flushes : goal.returns-then-not-round-clause-flushes
@@ -47,7 +49,7 @@ round-requires-clause-stored g c =
     let mid = c.rounds.keeper in
     let h = history_of first.reporter.log in
     let m = history_of mid.reporter.log in
-    handed_on d g.J.BookName.stored h m first.held.flusher mid.held.flusher (λ is. by_run d h m first.held.flusher mid.held.flusher (c.rounds.invariant.1 is)) c.requires.stored
+    handed_on d g.J.BookName.stored h m first.held.flusher mid.held.flusher (λ is. by_run d h m first.held.flusher mid.held.flusher c.rounds.invariant.3 (c.rounds.invariant.1 is)) c.requires.stored
 
 pub round-requires-clause-failed : goal.round-requires-clause-failed
 round-requires-clause-failed g c =
@@ -57,4 +59,4 @@ round-requires-clause-failed g c =
     let h = history_of first.reporter.log in
     let m = history_of mid.reporter.log in
     failed_on d g.J.BookName.failed h m first.held.flusher mid.held.flusher
-    (λ is. let run = c.rounds.invariant.1 is in (by_run d h m first.held.flusher mid.held.flusher run, run.by_device, run.blocks)) c.requires.failed
+    (λ is. let run = c.rounds.invariant.1 is in (by_run d h m first.held.flusher mid.held.flusher c.rounds.invariant.3 run, run.by_device, run.blocks)) c.requires.failed

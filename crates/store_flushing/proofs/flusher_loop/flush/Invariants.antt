@@ -11,3 +11,4 @@ invariant-rounds g l =
     × (IsStoreOf g.D.Disk (history_of l.initial.keeper.reporter.log) l.initial.keeper.held.flusher
     → Flushes g.D.Disk (history_of l.initial.keeper.reporter.log) l.initial.keeper.held.flusher (history_of l.keeper.reporter.log) l.keeper.held.flusher)
     × KeepsNotes g.D.Disk l.initial.keeper l.keeper
+    × (l.keeper.held.flusher.commit.name ≡ l.initial.keeper.held.flusher.commit.name)

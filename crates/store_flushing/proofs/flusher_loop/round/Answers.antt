@@ -1,4 +1,4 @@
-use Rattle.std.proofs.Common.{ap}
+use Rattle.std.proofs.Common.{◌≡◌, ap}
 use Rattle.book_history.specs.Logs.{history_of}
 use Rattle.kept_store.specs.declared.held_store.HeldStore.{HeldStore}
 use Rattle.kept_store.proofs.FailLemmas.{failed_on}
@@ -44,7 +44,8 @@ commit-requires-clause-stored g c =
     let mid = c.look.new.self in
     let h = history_of old.reporter.log in
     let m = history_of mid.reporter.log in
-    handed_on d g.J.BookName.stored h m old.held.flusher mid.held.flusher (λ is. by_call d h m old.held.flusher mid.held.flusher (c.look.ensures.keeps is)) c.requires.stored
+    let name : mid.held.flusher.commit.name ≡ old.held.flusher.commit.name = ap (λ (s : HeldStore g.row.D.Denot g.D.Disk). s.flusher.commit.name) c.look.ensures.held in
+    handed_on d g.J.BookName.stored h m old.held.flusher mid.held.flusher (λ is. by_call d h m old.held.flusher mid.held.flusher name (c.look.ensures.keeps is)) c.requires.stored
 
 pub commit-requires-clause-failed : goal.commit-requires-clause-failed
 commit-requires-clause-failed g c =
@@ -53,5 +54,6 @@ commit-requires-clause-failed g c =
     let mid = c.look.new.self in
     let h = history_of old.reporter.log in
     let m = history_of mid.reporter.log in
+    let name : mid.held.flusher.commit.name ≡ old.held.flusher.commit.name = ap (λ (s : HeldStore g.row.D.Denot g.D.Disk). s.flusher.commit.name) c.look.ensures.held in
     failed_on d g.J.BookName.failed h m old.held.flusher mid.held.flusher
-    (λ is. let kept = c.look.ensures.keeps is in (by_call d h m old.held.flusher mid.held.flusher kept, kept.by_device, kept.blocks)) c.requires.failed
+    (λ is. let kept = c.look.ensures.keeps is in (by_call d h m old.held.flusher mid.held.flusher name kept, kept.by_device, kept.blocks)) c.requires.failed

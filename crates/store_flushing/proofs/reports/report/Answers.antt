@@ -8,7 +8,7 @@ use Rattle.store_flushing.proofs.reports.report.Goals as goal
 
 pub report-requires-clause-stored : goal.report-requires-clause-stored
 report-requires-clause-stored g c =
-    subst (λ (h : Heard). g.J.BookName.stored h.log c.args.number) (sym c.tries.invariant) c.requires.stored
+    subst (λ (h : Heard). g.J.BookName.stored h.log c.args.receipt.now.number) (sym c.tries.invariant) c.requires.stored
 
 pub returns-in-Ok-clause-goes_on : goal.returns-in-Ok-clause-goes_on
 returns-in-Ok-clause-goes_on g c =
@@ -19,11 +19,11 @@ returns-in-Ok-clause-history g c = is_history c.args.me.now.log c.given.ensures.
 
 pub returns-in-Ok-clause-reached : goal.returns-in-Ok-clause-reached
 returns-in-Ok-clause-reached g c level =
-    let there = subst (λ (h : Heard). c.args.number ≤ (newest_in h.log).number) (sym c.tries.invariant) level in
-    subst (λ m. c.args.number ≤ m) (sym c.in-Ok.ensures.ok) (c.in-Ok.ensures.reached there)
+    let there = subst (λ (h : Heard). c.args.receipt.now.number ≤ (newest_in h.log).number) (sym c.tries.invariant) level in
+    subst (λ m. c.args.receipt.now.number ≤ m) (sym c.in-Ok.ensures.ok) (c.in-Ok.ensures.reached there)
 
 pub returns-in-Ok-clause-reported : goal.returns-in-Ok-clause-reported
 returns-in-Ok-clause-reported g c =
     let now = (newest_in c.report.new.me.log).durable in
-    subst (λ (h : Heard). (now ≡ c.args.number) ⊎ (now ≡ (newest_in h.log).durable)) c.tries.invariant
-    (reported_durable c.tries.me c.args.number c.report.new.me.log c.in-Ok.ensures.reported)
+    subst (λ (h : Heard). (now ≡ c.args.receipt.now.number) ⊎ (now ≡ (newest_in h.log).durable)) c.tries.invariant
+    (reported_durable c.tries.me c.args.receipt.now.number c.report.new.me.log c.in-Ok.ensures.reported)

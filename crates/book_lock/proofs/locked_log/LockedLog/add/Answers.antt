@@ -21,6 +21,8 @@ add-requires g c =
       room = search (rules, arith);
       follows = subst (λ l. Follows l event c.deref.result.now) (search rules) follows;
       reported = subst (λ l. (c.deref.result.now.durable ≡ (newest_in l).durable) ⊎ MayBeReported stored l c.deref.result.now.durable) (search rules) reported;
+      asked = c.requires.asked;
+      own = c.requires.own;
     }
 
 pub returns-then-at-ge-MOST : goal.returns-then-at-ge-MOST

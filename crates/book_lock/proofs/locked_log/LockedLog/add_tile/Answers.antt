@@ -52,6 +52,8 @@ add-requires g c =
       room = search (rules, arith);
       follows = subst (λ e. Follows (newest_in log) e c.keep.new.self) (λ i. kept name (sym column i) (sym c.tile.ensures.value i)) reported;
       reported = inl reported.durable;
+      asked = tt;
+      own = tt;
     }
 
 pub returns-then-add : goal.returns-then-add

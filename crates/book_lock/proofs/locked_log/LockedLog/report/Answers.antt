@@ -12,7 +12,7 @@ use Rattle.book_lock.proofs.locked_log.LockedLog.report.Goals as goal
 pub raise-requires : goal.raise-requires
 raise-requires g c =
     let heard = c.if-not-has_heard.ensures.0 refl in
-    record { stored = record { was = c.args.me.now.log; longer = heard.longer; holds = c.requires.stored } }
+    record { own = c.requires.own; stored = record { was = c.args.me.now.log; longer = heard.longer; holds = c.requires.stored } }
 
 pub move_on-requires : goal.move_on-requires
 move_on-requires g c =

@@ -1,6 +1,7 @@
-use Rattle.std.proofs.Common.{length, ap, sym, ◌∙◌, subst, refl, arith, inl, rules, false}
+use Rattle.std.proofs.Common.{length, map, ap, sym, ◌∙◌, subst, refl, arith, inl, rules, false}
 use Rattle.std.specs.Arc.{arc_value}
 use Rattle.overlay_terms.specs.Histories.{accepted, commands_of, FollowsBatch}
+use Rattle.layer_book.specs.Command.{command}
 use Rattle.book_history.specs.Logs.{newest_in}
 use Rattle.book_history.proofs.Owned.{own_le, own_then}
 use Rattle.book_lock.proofs.Growing.{newest_of, entry_by}
@@ -25,7 +26,14 @@ add-requires g c =
     let old = c.deref.ensures ∙ c.last.ensures.version in
     let batch = g.C.Change.batch c.args.change.now in
     let follows : FollowsBatch (newest_in c.args.self.now) batch (arc_value c.in-Ok.version) = subst (λ v. FollowsBatch v batch (arc_value c.in-Ok.version)) old c.in-Ok.ensures.ok in
-    record { follows = search rules; seat = search rules; reported = inl follows.durable }
+    let asked = subst (λ b. g.J.BookName.asked c.args.me.now.session b) (sym c.commands.ensures) c.requires.asked in
+    record {
+      follows = search rules;
+      seat = search rules;
+      reported = inl follows.durable;
+      asked = subst (λ by. g.J.BookName.asked by (map command c.commands.result.now)) (sym c.number-by.ensures.value) asked;
+      own = tt;
+    }
 
 pub made_one-requires-clause-own : goal.made_one-requires-clause-own
 made_one-requires-clause-own g c =

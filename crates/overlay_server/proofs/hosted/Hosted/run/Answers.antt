@@ -14,10 +14,12 @@ use Rattle.session_threads.specs.Rooms.{HasRoom}
 use Rattle.session_threads.specs.Running.{IsRunOf}
 use Rattle.session_threads.specs.Seats.{ended_session}
 use Rattle.session_threads.specs.declared.port.Port.{Port}
+use Rattle.server_session.specs.Asking.{MayAskAll}
 use Rattle.server_session.specs.Replying.{IsAtStart, IsPastMost}
 use Rattle.server_session.specs.Stores.{store_of}
 use Rattle.overlay_server.specs.Given.{Given, given_to}
 use Rattle.overlay_server.specs.Serving.{first_log}
+use Rattle.overlay_server.proofs.Asked.{all_ask}
 use Rattle.overlay_server.proofs.Held.{runs_held}
 use Rattle.overlay_server.proofs.Refusals.{MayAnswer, refused_at_once}
 use Rattle.overlay_server.proofs.Reporting.{goes_of, may_report_all, own_of}
@@ -48,7 +50,7 @@ returns-in-Err-clause-refused g c =
 
 pub run_threads-worked-requires-clause-stored : goal.run_threads-worked-requires-clause-stored
 run_threads-worked-requires-clause-stored g c κs within =
-    holds_first g.D.Disk g.J.BookName.stored g.J.BookName.failed c.args.self.version.value c.args.self.store c.requires.hosted.begun c.requires.meant c.requires.failed
+    holds_first g.D.Disk g.J.BookName.store g.J.BookName.stored g.J.BookName.failed c.args.self.version.value c.args.self.store c.requires.hosted.begun c.requires.mine c.requires.meant c.requires.failed
 
 pub run_threads-worked-requires-clause-ready : goal.run_threads-worked-requires-clause-ready
 run_threads-worked-requires-clause-ready g c κs within =
@@ -63,6 +65,8 @@ run_threads-worked-requires-clause-ready g c κs within =
           (record { stored_is = λ log number. (c.requires.meant log number).0; failed_is = λ log fault. (c.requires.failed log fault).0 })
           g.W.ReplyWriter.may_report c.requires.reported _ c.requires.hosted.stored seats.scripts.items (begin_there g.J.BookName.book start ports seats.scripts.items seated);
       goes_on = goes_of (λ port me. g.W.ReplyWriter.from port.writer (has_store self.shared) me) ports self.sessions.items seats.scripts.items c.in-Ok.ensures.ports c.in-Ok.ensures.sessions c.requires.from;
+      asked_for = goes_of (λ port me. MayAskAll (g.J.BookName.asked me.session) (g.R.Read.remaining port.reader)) ports self.sessions.items seats.scripts.items c.in-Ok.ensures.ports c.in-Ok.ensures.sessions
+          (all_ask g.R.Read.remaining g.W.ReplyWriter.contents g.J.BookName.asked ports _ self.sessions.items c.requires.hosted.sessions c.requires.asked);
       own = own_of (λ port. IfSome (g.W.ReplyWriter.left port.writer) (IsAtStart (g.R.Read.remaining port.reader))) ports seats.scripts.items c.in-Ok.ensures.ports c.requires.own;
       limit = own_of (λ port. IsPastMost port.most (g.R.Read.remaining port.reader) → g.W.ReplyWriter.may_pass_limit port.writer) ports seats.scripts.items c.in-Ok.ensures.ports c.requires.limit;
       room = subst (HasRoom seats) (sym (as_many g.J.BookName.book start ports seats.scripts.items seated)) c.in-Ok.ensures.room;
@@ -72,8 +76,8 @@ pub keep_store-requires-clause-stored : goal.keep_store-requires-clause-stored
 keep_store-requires-clause-stored g c =
     let old = c.args.self.store in
     let work = c.run_threads-worked in
-    holds_on g.D.Disk g.J.BookName.stored g.J.BookName.failed old work.new.store work.ensures.store.flushed
-    (holds_first g.D.Disk g.J.BookName.stored g.J.BookName.failed c.args.self.version.value old c.requires.hosted.begun c.requires.meant c.requires.failed)
+    holds_on g.D.Disk g.J.BookName.store g.J.BookName.stored g.J.BookName.failed old work.new.store work.ensures.store.flushed
+    (holds_first g.D.Disk g.J.BookName.store g.J.BookName.stored g.J.BookName.failed c.args.self.version.value old c.requires.hosted.begun c.requires.mine c.requires.meant c.requires.failed)
 
 pub close-closed-requires-clause-sessions : goal.close-closed-requires-clause-sessions
 close-closed-requires-clause-sessions g c =

@@ -1,5 +1,7 @@
-use Rattle.std.proofs.Common.{[], ◌∷◌, ◌+◌, ◌-◌, ◌<◌, ◌++◌, length, length-take, take, drop, refl, ap, ◌∙◌, append_assoc, arith}
+use Rattle.std.proofs.Common.{[], ◌∷◌, ◌+◌, ◌-◌, ◌<◌, ◌++◌, length, length-take, take, drop, refl, ap, sym, subst, ◌∙◌, append_assoc, arith}
 use Rattle.std.proofs.lemmas.List.{take_rest}
+use Rattle.server_session.specs.Asking.{MayAskNext}
+use Rattle.server_session.proofs.Asked.{asks_next}
 use Rattle.server_session.proofs.Feeds.{around, none_at_all, none_before}
 use Rattle.server_session.proofs.Steps.{takes_none, takes_part, answers_nothing, answers_part, takes_more, answers_more, stops_there, at_err}
 use Rattle.server_session.proofs.Left.{away_both, away_none, may_report-on, part_away, part_next}
@@ -93,3 +95,13 @@ returns-clause-left g c =
     let here = c.loop-at.invariant in
     away_both c.args.self.now c.loop-at.self here.past here.takes rest c.args.bytes.now (g.W.ReplyWriter.left c.args.writer.now) (g.W.ReplyWriter.left c.loop-at.writer) (g.W.ReplyWriter.left c.loop-at.writer)
     here.parts here.left (part_away c.loop-at.self rest (none_at_all rest c.in_default.ensures) (g.W.ReplyWriter.left c.loop-at.writer))
+
+pub end_line-requires-clause-asked : goal.end_line-requires-clause-asked
+end_line-requires-clause-asked g c κs within =
+    let rest = c.loop-at.rest.now in
+    let at = c.in-Some.at in
+    let line = take at rest ++ 10 ∷ [] in
+    let here = c.loop-at.invariant in
+    subst (λ s. MayAskNext (g.J.BookName.asked s) c.loop-at.self line) (sym here.stays.session)
+    (asks_next (g.J.BookName.asked c.args.me.now.session) c.args.self.now c.loop-at.self here.past line (drop (at + 1) rest) c.args.bytes.now
+    (ap (λ l. here.past ++ l) (around rest at c.in-Some.ensures.0.high c.in-Some.ensures.1) ∙ here.parts) here.takes c.requires.asked)

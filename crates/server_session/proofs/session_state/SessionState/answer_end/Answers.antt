@@ -1,6 +1,7 @@
 use Rattle.std.proofs.Common.{length, ap, sym, arith}
 use Rattle.std.proofs.lemmas.Bool.{eqb-true, eqb-false}
 use Rattle.version_book.specs.Store.{has_store}
+use Rattle.server_session.proofs.Asked.{asks_last}
 use Rattle.server_session.proofs.Left.{at_last_feed, at_last_line, behind_last, some_then}
 use Rattle.server_session.proofs.Steps.{answers_empty, stops_empty, answers_last, stops_last, stops_at_last, at_err}
 use Rattle.server_session.proofs.session_state.SessionState.answer_end.Goals as goal
@@ -60,3 +61,9 @@ end_batch-requires-2 g c =
       own = behind_last c.args.self.now _ c.take-waiting.ensures.value _ c.bytes-line.ensures (omega arith) c.args.me.now c.answer_line.new.me c.answer_line.new.waiting _ _ c.in_ok-answer_line.ensures.answers
           (g.W.ReplyWriter.left c.args.writer.now) (g.W.ReplyWriter.left c.answer_line.new.writer) c.in_ok-answer_line.ensures.left c.requires.own;
     }
+
+pub answer_line-requires-clause-asked : goal.answer_line-requires-clause-asked
+answer_line-requires-clause-asked g c κs within =
+    let same = ap length c.bytes-line.ensures in
+    let some = eqb-false (length c.bytes-line.result.now) 0 (sym c.if-is_empty.ensures) in
+    asks_last (g.J.BookName.asked c.args.me.now.session) c.args.self.now _ c.take-waiting.ensures.value _ c.bytes-line.ensures (omega arith) c.requires.asked

@@ -1,4 +1,5 @@
 use Rattle.std.proofs.Common.{refl}
+use Rattle.server_session.proofs.Asked.{asks_fed}
 use Rattle.server_session.proofs.Left.{at_line, line_away, ok_then, some_then}
 use Rattle.server_session.proofs.Steps.{answers_line, stops_line, takes_line}
 use Rattle.server_session.proofs.session_state.SessionState.end_line.Goals as goal
@@ -27,3 +28,7 @@ returns-clause-left g c =
     ok_then c.answer_line-reported.result
     (line_away c.args.self.now c.args.bytes.now _ c.requires.no_feed c.push_all.ensures c.take-waiting.result _ c.take-waiting.ensures.value c.without_cr-line.ensures
     (g.W.ReplyWriter.left c.args.writer.now) (g.W.ReplyWriter.left c.answer_line-reported.new.writer)) c.answer_line-reported.ensures.left
+
+pub answer_line-reported-requires-clause-asked : goal.answer_line-reported-requires-clause-asked
+answer_line-reported-requires-clause-asked g c κs within =
+    asks_fed (g.J.BookName.asked c.args.me.now.session) c.args.self.now c.args.bytes.now _ c.requires.no_feed c.push_all.ensures c.take-waiting.result _ c.take-waiting.ensures.value c.without_cr-line.ensures c.requires.asked

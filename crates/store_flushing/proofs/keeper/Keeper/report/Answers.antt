@@ -9,7 +9,7 @@ use Rattle.store_flushing.proofs.ReportedLemmas.{news_reported}
 use Rattle.store_flushing.proofs.keeper.Keeper.report.Goals as goal
 
 pub report-requires-clause-stored : goal.report-requires-clause-stored
-report-requires-clause-stored g c = subst (g.J.BookName.stored c.args.self.now.reporter.log) (sym c.stored.ensures) c.requires.stored
+report-requires-clause-stored g c = subst (g.J.BookName.stored c.args.self.now.reporter.log) (sym c.receipt.ensures.number) c.requires.stored
 
 pub returns-clause-history : goal.returns-clause-history
 returns-clause-history g c = is_history c.report.new.me.log c.given.ensures.valid
@@ -21,7 +21,7 @@ returns-clause-keeps g c is =
     let n = history_of c.report.new.me.log in
     let s = c.args.self.now.held.flusher in
     let e = c.report.ensures in
-    let reported = subst (λ (k : ℕ). ((newest_in c.report.new.me.log).durable ≡ k) ⊎ ((newest_in c.report.new.me.log).durable ≡ (newest_in c.args.self.now.reporter.log).durable)) c.stored.ensures e.reported in
+    let reported = subst (λ (k : ℕ). ((newest_in c.report.new.me.log).durable ≡ k) ⊎ ((newest_in c.report.new.me.log).durable ≡ (newest_in c.args.self.now.reporter.log).durable)) c.receipt.ensures.number e.reported in
     report_kept d h n s (λ k left. g.met.D.Disk.only_now s.commit.disk k is.honest left) e.goes_on reported is (returns-clause-history g c)
 
 pub returns-clause-reported : goal.returns-clause-reported
@@ -31,8 +31,8 @@ returns-clause-reported g c is =
     let n = history_of c.report.new.me.log in
     let s = c.args.self.now.held.flusher in
     let e = c.report.ensures in
-    let reported = subst (λ (k : ℕ). ((newest_in c.report.new.me.log).durable ≡ k) ⊎ ((newest_in c.report.new.me.log).durable ≡ (newest_in c.args.self.now.reporter.log).durable)) c.stored.ensures e.reported in
-    let reached = subst (λ (k : ℕ). k ≤ (newest_in c.args.self.now.reporter.log).number → k ≤ (newest_in c.report.new.me.log).durable) c.stored.ensures e.reached in
+    let reported = subst (λ (k : ℕ). ((newest_in c.report.new.me.log).durable ≡ k) ⊎ ((newest_in c.report.new.me.log).durable ≡ (newest_in c.args.self.now.reporter.log).durable)) c.receipt.ensures.number e.reported in
+    let reached = subst (λ (k : ℕ). k ≤ (newest_in c.args.self.now.reporter.log).number → k ≤ (newest_in c.report.new.me.log).durable) c.receipt.ensures.number e.reached in
     all_reported d h n s (λ k left. g.met.D.Disk.only_now s.commit.disk k is.honest left) e.goes_on reported is reached (stored_level d g.met.D.Disk.seen_may_stay h s e.history is)
 
 pub returns-clause-notes_stay : goal.returns-clause-notes_stay

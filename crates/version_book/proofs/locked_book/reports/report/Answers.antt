@@ -10,4 +10,4 @@ invariant_of-locked g c =
     let after = s.new.self in
     let r = s.result in
     let e = s.ensures in
-    record { failed = still_failed g.J.BookName.failed old.log after old.state.fault old.state.fault (reported_longer me s.new.me _ _ r old.log after c.args.number e.ok e.err) refl old.failed }
+    record { failed = still_failed g.J.BookName.failed old.log after old.state.fault old.state.fault (reported_longer me s.new.me _ _ r old.log after c.args.receipt.now.number e.ok e.err) refl old.failed }

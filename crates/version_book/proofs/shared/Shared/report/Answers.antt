@@ -8,7 +8,7 @@ returns g c =
     let new = s.new.me in
     let log = c.deref_mut.result.now.log in
     let after = s.new.locked.log in
-    let n = c.args.number in
+    let n = c.args.receipt.now.number in
     let r = s.result in
     let e = s.ensures in
     record {
