@@ -1,6 +1,7 @@
 //! What is known of a feature before any job: its area, and the box of its boundary.
 use crate::expressions::of_two;
 use crate::fault::JobFault;
+use crate::stars::star;
 use block_reading::Core;
 use exact_point::HPoint;
 use feature_windows::{
@@ -10,11 +11,13 @@ use layer_expr::StepList;
 use std::alloc::Global;
 use swept_area::SidedPiece;
 
-/// Twice a feature's area with its bound, and the box of its boundary, which holds nothing where there is none.
+/// Twice a feature's area with its bound, the box of its boundary, which holds nothing where there is none, and whether it
+/// is known that all of its steps are boundary.
 #[derive(Clone, Copy, Debug)]
 pub(crate) struct Known {
     pub found: Found,
     pub extent: Core,
+    pub is_plain: bool,
 }
 
 /// A feature, or why nothing is known of it.
@@ -99,6 +102,14 @@ fn known_of(
         return Ok(Known {
             found: nothing_found(),
             extent: nothing(),
+            is_plain: false,
+        });
+    }
+    if let Some(found) = star(features, feature, &core) {
+        return Ok(Known {
+            found,
+            extent: core,
+            is_plain: true,
         });
     }
     let list = windows(
@@ -111,7 +122,11 @@ fn known_of(
     )?;
     let found = found_in(alloc, &list, own, core.low_x, core.low_y)?;
     let extent = extent_in(alloc, &list, own)?;
-    Ok(Known { found, extent })
+    Ok(Known {
+        found,
+        extent,
+        is_plain: false,
+    })
 }
 
 /// What is known of all features.

@@ -8,12 +8,14 @@ mod expressions;
 mod fault;
 mod known;
 mod locating;
+mod meeting;
 mod outlining;
 mod pair;
 mod relation;
 mod reply;
 mod rings;
 mod running;
+mod stars;
 mod text;
 
 pub use fault::JobFault;

@@ -1,6 +1,7 @@
 //! Pairs of features.
 use crate::fault::JobFault;
 use crate::known::{Known, nothing_found};
+use crate::meeting::{Meeting, met_by_steps};
 use crate::outlining::outline_in;
 use crate::relation::{Both, PairSteps, Relation, are_apart, relation_within, touch};
 use block_reading::Core;
@@ -22,6 +23,45 @@ pub(crate) struct PairFound {
     pub core: Core,
 }
 
+/// A pair without a common point.
+fn apart_pair(a: &Known, b: &Known) -> PairFound {
+    PairFound {
+        relation: Relation::Disjoint,
+        is_proper: false,
+        a: a.found,
+        b: b.found,
+        both: nothing_found(),
+        outline: None,
+        core: nothing(),
+    }
+}
+
+/// A pair of which one has all of the other in its interior.
+fn inner_pair(relation: Relation, a: &Known, b: &Known, less: &Found, core: Core) -> PairFound {
+    PairFound {
+        relation,
+        is_proper: true,
+        a: a.found,
+        b: b.found,
+        both: *less,
+        outline: None,
+        core,
+    }
+}
+
+/// Whether some point of some windows is on both boundaries, where steps do not say it.
+fn touch_unless(
+    alloc: Global,
+    met: Meeting,
+    list: &[Window],
+    steps: &PairSteps,
+) -> Result<bool, JobFault> {
+    if met == Meeting::Met {
+        return Ok(true);
+    }
+    touch(alloc, list, steps)
+}
+
 /// The relation of a pair of which this was found in its windows, and whether it is proper.
 fn related(
     alloc: Global,
@@ -30,12 +70,12 @@ fn related(
     steps: &PairSteps,
     limit: usize,
     list: &[Window],
-    found: &Found,
+    met: Meeting,
 ) -> Result<(Relation, bool), JobFault> {
-    if found.pieces == 0 {
-        let met = touch(alloc, list, steps)?;
+    if both.found.pieces == 0 {
+        let is_met = touch_unless(alloc, met, list, steps)?;
         return Ok((
-            if met {
+            if is_met {
                 Relation::Touches
             } else {
                 Relation::Disjoint
@@ -45,14 +85,14 @@ fn related(
     }
     let relation = relation_within(alloc, features, both, steps, limit)?;
     if relation == Relation::Within || relation == Relation::Contains {
-        let met = touch(alloc, list, steps)?;
-        return Ok((relation, !met));
+        let is_met = touch_unless(alloc, met, list, steps)?;
+        return Ok((relation, !is_met));
     }
     Ok((relation, false))
 }
 
-/// How feature a lies to feature b, and what both have in common, seen from the low corner of what their boxes have.
-pub(crate) fn pair(
+/// A pair by a pass over each window of its core.
+fn by_passes(
     alloc: Global,
     features: &Features,
     near: &[Near; 2],
@@ -61,24 +101,18 @@ pub(crate) fn pair(
     steps: &PairSteps,
     limit: usize,
     wants: bool,
+    core: Core,
+    met: Meeting,
 ) -> Result<PairFound, JobFault> {
-    if are_apart(a, b) {
-        let both = nothing_found();
-        return Ok(PairFound {
-            relation: Relation::Disjoint,
-            is_proper: false,
-            a: a.found,
-            b: b.found,
-            both,
-            outline: None,
-            core: nothing(),
-        });
-    }
-    let core = common(&a.extent, &b.extent);
     let list = windows(alloc, features, near, 2, &core, limit)?;
     let found = found_in(alloc, &list, &steps.both, core.low_x, core.low_y)?;
-    let both = Both { near, a, b };
-    let (relation, is_proper) = related(alloc, features, &both, steps, limit, &list, &found)?;
+    let both = Both {
+        near,
+        a,
+        b,
+        found: &found,
+    };
+    let (relation, is_proper) = related(alloc, features, &both, steps, limit, &list, met)?;
     let outline = if wants {
         Some(outline_in(alloc, &list, &steps.both, &core)?)
     } else {
@@ -93,4 +127,29 @@ pub(crate) fn pair(
         outline,
         core,
     })
+}
+
+/// How feature a lies to feature b, and what both have in common, seen from the low corner of what their boxes have: by
+/// their steps where these say it, else by passes.
+pub(crate) fn pair(
+    alloc: Global,
+    features: &Features,
+    near: &[Near; 2],
+    a: &Known,
+    b: &Known,
+    steps: &PairSteps,
+    limit: usize,
+    wants: bool,
+) -> Result<PairFound, JobFault> {
+    if are_apart(a, b) {
+        return Ok(apart_pair(a, b));
+    }
+    let core = common(&a.extent, &b.extent);
+    let met = met_by_steps(features, (near[0].feature, a), (near[1].feature, b), &core);
+    match met {
+        Meeting::Apart => Ok(apart_pair(a, b)),
+        Meeting::FirstInside if !wants => Ok(inner_pair(Relation::Within, a, b, &a.found, core)),
+        Meeting::SecondInside if !wants => Ok(inner_pair(Relation::Contains, a, b, &b.found, core)),
+        _ => by_passes(alloc, features, near, a, b, steps, limit, wants, core, met),
+    }
 }

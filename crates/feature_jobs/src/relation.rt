@@ -1,12 +1,14 @@
 //! How two features lie to each other, by the boundaries of layers: their interiors meet exactly if A & B has a boundary,
-//! and one has a part off the other exactly if their difference has one; they touch if the interiors do not meet and some
-//! point is on both boundaries.
+//! and one has a part off the other exactly if their difference has one, as it has where A & B is less; they touch if the
+//! interiors do not meet and some point is on both boundaries.
 use crate::expressions::of_two;
 use crate::fault::JobFault;
 use crate::known::Known;
 use block_reading::Core;
 use exact_point::HPoint;
-use feature_windows::{Features, Near, Window, is_nothing, is_within, meet, pieces_in, windows};
+use feature_windows::{
+    Features, Found, Near, Window, is_nothing, is_within, meet, pieces_in, windows,
+};
 use layer_expr::StepList;
 use std::alloc::Global;
 use swept_area::SidedPiece;
@@ -135,15 +137,27 @@ fn has_part(alloc: Global, list: &[Window], steps: &StepList) -> Result<bool, Jo
     Ok(false)
 }
 
-/// Two features, with what is known of both.
+/// Two features, with what is known of both, and what both have in common.
 #[derive(Debug, Drop)]
 pub(crate) struct Both<'a> {
     pub near: &'a [Near; 2],
     pub a: &'a Known,
     pub b: &'a Known,
+    pub found: &'a Found,
 }
 
-/// Whether the first of two features has a part off the second, by the boxes of their boundaries, or else by a pass.
+/// Whether an area is less than another by more than both may be off; none where that is not known. What is less is part of
+/// the other, so areas that are exact and not apart are of the same.
+fn is_less(less: &Found, whole: &Found) -> Option<bool> {
+    let off = less.bound.saturating_add(whole.bound);
+    if less.twice.saturating_add(off) < whole.twice {
+        return Some(true);
+    }
+    if off == 0 { Some(false) } else { None }
+}
+
+/// Whether the first of two features has a part off the second, by the boxes of their boundaries or by areas, or else by a
+/// pass.
 fn has_rest(
     alloc: Global,
     features: &Features,
@@ -152,25 +166,20 @@ fn has_rest(
     steps: &PairSteps,
     limit: usize,
 ) -> Result<bool, JobFault> {
-    let (one, other) = if is_first {
-        (both.a, both.b)
+    let (one, other, alone) = if is_first {
+        (both.a, both.b, &steps.first_alone)
     } else {
-        (both.b, both.a)
+        (both.b, both.a, &steps.second_alone)
     };
     if !is_within(&one.extent, &other.extent) {
         return Ok(true);
     }
+    if let Some(is_part) = is_less(both.found, &one.found) {
+        return Ok(is_part);
+    }
     let near = both.near;
     let list = windows(alloc, features, near, 2, &one.extent, limit)?;
-    has_part(
-        alloc,
-        &list,
-        if is_first {
-            &steps.first_alone
-        } else {
-            &steps.second_alone
-        },
-    )
+    has_part(alloc, &list, alone)
 }
 
 /// The relation of two features whose interiors meet.

@@ -1,2 +1,4 @@
 pub mod FoundLemmas
 pub mod ShownLemmas
+pub mod SumLemmas
+pub mod DealtLemmas

@@ -1,8 +1,12 @@
 //! The features of a block, with their boxes.
+ghost use Rattle.std.specs.Prelude.{◌≡◌, ◌≤◌, length, take, drop, slice_get, Some, IfOk, IfSome, IfNone};
+ghost use Rattle.block_reading.specs.Block.{dealt, features_of};
+
 use crate::boxes::nothing;
-use crate::rings::{Rings, parted};
+use crate::rings::{Rings, split_points};
 use block_reading::{Core, FarPoint, Shapes};
 use std::alloc::{AllocError, Global};
+use std::marker::Model;
 
 /// The features of a block.
 #[derive(Debug, Drop)]
@@ -11,30 +15,11 @@ pub struct Features {
     boxes: Vec<Core>,
 }
 
-/// Rings of so many points each, from the front of some points.
-fn rings_of(alloc: Global, counts: &[u32], points: &[FarPoint]) -> Result<Rings, AllocError> {
-    let mut rings = Rings::none(alloc);
-    let mut rest = points;
-    for count in counts {
-        let (own, after) = parted(rest, *count);
-        rings.add(own)?;
-        rest = after;
-    }
-    Ok(rings)
-}
-
-/// The points after such rings.
-fn skipped<'a>(counts: &[u32], points: &'a [FarPoint]) -> &'a [FarPoint] {
-    let mut rest = points;
-    for count in counts {
-        let (_, after) = parted(rest, *count);
-        rest = after;
-    }
-    rest
-}
-
 /// The first so many counts, or all where there are fewer, and those after them.
-fn counts_parted(counts: &[u32], count: u32) -> (&[u32], &[u32]) {
+fn counts_parted(counts: &[u32], count: u32) -> (&[u32], &[u32])
+    ensures first { result.0.now ≡ take count counts.now }
+    ensures rest { result.1.now ≡ drop count counts.now }
+{
     let count = count as usize;
     if counts.len() < count {
         return (counts, &counts[counts.len()..]);
@@ -42,16 +27,25 @@ fn counts_parted(counts: &[u32], count: u32) -> (&[u32], &[u32]) {
     counts.split_at(count)
 }
 
-/// Rings dealt out to features.
-fn dealt_out(alloc: Global, shapes: &Shapes) -> Result<Vec<Rings>, AllocError> {
+/// Rings of so many points each, dealt out to features of so many rings each.
+fn dealt_out(
+    alloc: Global,
+    ring_counts: &[u32],
+    point_counts: &[u32],
+    points: &[FarPoint],
+) -> Result<Vec<Rings>, AllocError>
+    ensures { IfOk result (λ list. list.items ≡ dealt ring_counts.now (dealt point_counts.now points.now)) }
+{
     let mut list = Vec::new(alloc);
-    let mut counts = shapes.point_counts();
-    let mut rest = shapes.points();
-    for count in shapes.ring_counts() {
+    let mut counts = point_counts;
+    let mut rest = points;
+    for count in ring_counts {
         let (own, others) = counts_parted(counts, *count);
-        list.push(rings_of(alloc, own, rest)?)?;
-        rest = skipped(own, rest);
+        let (front, after) = split_points(own, rest);
+        let rings = Rings::of(alloc, own, front)?;
+        list.push(rings)?;
         counts = others;
+        rest = after;
     }
     Ok(list)
 }
@@ -65,10 +59,26 @@ fn boxes(alloc: Global, rings: &[Rings]) -> Result<Vec<Core>, AllocError> {
     Ok(list)
 }
 
+impl Model for Features {
+    ghost use Rattle.std.specs.Prelude.{List};
+    ghost use Rattle.overlay_terms.specs.Plane.{WholePoint};
+
+    ghost Value = { List (List (List WholePoint)) };
+
+    ghost view = { λ f. f.rings.items };
+}
+
 impl Features {
     /// The features of a block.
-    pub fn of(alloc: Global, shapes: &Shapes) -> Result<Features, AllocError> {
-        let rings = dealt_out(alloc, shapes)?;
+    pub fn of(alloc: Global, shapes: &Shapes) -> Result<Features, AllocError>
+        ensures { IfOk result (λ features. features ≡ features_of shapes.now) }
+    {
+        let rings = dealt_out(
+            alloc,
+            shapes.ring_counts(),
+            shapes.point_counts(),
+            shapes.points(),
+        )?;
         let boxes = boxes(alloc, &rings)?;
         Ok(Features { rings, boxes })
     }
@@ -79,7 +89,10 @@ impl Features {
     }
 
     /// The rings of a feature; none where there is no such feature.
-    pub fn rings_of(&self, feature: usize) -> Option<&Rings> {
+    pub fn rings_of(&self, feature: usize) -> Option<&Rings>
+        ensures some { IfSome result (λ rings. slice_get self.now feature ≡ Some rings.now) }
+        ensures none { IfNone result (length self.now ≤ feature) }
+    {
         self.rings.get(feature)
     }
 

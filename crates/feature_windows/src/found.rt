@@ -1,9 +1,10 @@
 //! What the passes of a job have found.
-ghost use Rattle.std.specs.Prelude.{◌≡◌, ◌-ℤ◌, map, length, All, IfOk, IfSome};
+ghost use Rattle.std.specs.Prelude.{◌≡◌, ◌+ℤ◌, ◌-ℤ◌, map, length, All, IfOk, IfSome};
 ghost use Rattle.swept_area.specs.Swept as terms;
 ghost use Rattle.swept_area.specs.Pieces.{sided_from};
 ghost use Rattle.sided_pieces.specs.Sided.{sided_of, IsNearArea, IsOnItsSupport};
 ghost use Rattle.feature_windows.specs.Boundary.{IsFoundIn};
+ghost use Rattle.feature_windows.specs.Sums.{AreFoundIn};
 
 use crate::fault::WindowsFault;
 use crate::finding::pieces_in;
@@ -119,7 +120,9 @@ pub fn found_in_one(
 }
 
 /// The sum of two findings.
-fn sum(a: &Found, b: &Found) -> Result<Found, WindowsFault> {
+fn sum(a: &Found, b: &Found) -> Result<Found, WindowsFault>
+    ensures { IfOk result (λ all. all.twice ≡ a.now.twice +ℤ b.now.twice) }
+{
     let Some(twice) = a.twice.checked_add(b.twice) else {
         return Err(WindowsFault::LargeArea);
     };
@@ -138,7 +141,9 @@ pub fn found_in(
     steps: &StepList,
     x: i64,
     y: i64,
-) -> Result<Found, WindowsFault> {
+) -> Result<Found, WindowsFault>
+    ensures { IfOk result (λ all. AreFoundIn windows.now steps.now x y all) }
+{
     let mut all = Found {
         twice: 0,
         bound: 0,

@@ -1,5 +1,5 @@
 //! Rings in a row.
-ghost use Rattle.std.specs.Prelude.{◌≡◌, ◌≤◌, true, length, take, drop, All};
+ghost use Rattle.std.specs.Prelude.{◌≡◌, ◌≤◌, true, length, take, drop, sum_by, All, IfOk};
 ghost use Rattle.overlay_terms.specs.Plane.{is_closed};
 ghost use Rattle.overlay_terms.specs.InputLaws.{IsClosed};
 ghost use Rattle.block_reading.specs.Block.{dealt};
@@ -37,6 +37,22 @@ pub fn parted(points: &[FarPoint], count: u32) -> (&[FarPoint], &[FarPoint])
         return (points, &points[points.len()..]);
     }
     points.split_at(count)
+}
+
+/// The points of rings of so many points each, and those after them.
+pub(crate) fn split_points<'a>(
+    counts: &[u32],
+    points: &'a [FarPoint],
+) -> (&'a [FarPoint], &'a [FarPoint])
+    ensures first { result.0.now ≡ take (sum_by (λ n. n) counts.now) points.now }
+    ensures rest { result.1.now ≡ drop (sum_by (λ n. n) counts.now) points.now }
+{
+    let mut rest = points;
+    for count in counts {
+        let (_, after) = parted(rest, *count);
+        rest = after;
+    }
+    points.split_at(points.len() - rest.len())
 }
 
 /// The same point as one of a map.
@@ -82,6 +98,19 @@ impl Rings {
         ensures { dealt result.0.now result.1.now ≡ self.now }
     {
         (&self.counts, &self.points)
+    }
+
+    /// Rings of so many points each, from the front of some points.
+    pub(crate) fn of(
+        alloc: Global,
+        counts: &[u32],
+        points: &[FarPoint],
+    ) -> Result<Rings, AllocError>
+        ensures { IfOk result (λ rings. rings ≡ dealt counts.now points.now) }
+    {
+        let counts = counts.to_vec(alloc)?;
+        let points = points.to_vec(alloc)?;
+        Ok(Rings { counts, points })
     }
 
     /// Adds a ring.

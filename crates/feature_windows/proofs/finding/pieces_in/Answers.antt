@@ -6,10 +6,8 @@ use Rattle.arrange.specs.Marked.{marked_of, segments_max}
 use Rattle.arrange.specs.declared.marked_seg.MarkedSeg.{MarkedSeg}
 use Rattle.crossing_sweep.specs.StripInput.{StripInput, IsStripInput}
 use Rattle.near_steps.specs.Cores.{box_of}
-use Rattle.swept_area.specs.declared.piece.SidedPiece.{SidedPiece}
 use Rattle.sided_pieces.specs.Sided.{sided_of, AreSided}
 use Rattle.feature_windows.specs.Boundary.{AreBoundary}
-use Rattle.feature_windows.specs.Shown.{AreShown}
 use Rattle.feature_windows.proofs.ShownLemmas.{shown_valid, value_shown}
 use Rattle.feature_windows.proofs.finding.pieces_in.Goals as goal
 

@@ -1,4 +1,4 @@
-use Rattle.std.proofs.Common.{[], ◌+◌, refl, sym, subst, arith, map}
+use Rattle.std.proofs.Common.{[], refl, sym, subst, arith, map}
 use Rattle.std.proofs.lemmas.List.{take_all}
 use Rattle.arrange.specs.Marked.{marked_of}
 use Rattle.feature_windows.specs.Shown.{AreShown}

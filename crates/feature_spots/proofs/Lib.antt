@@ -1,0 +1,4 @@
+pub mod StepLemmas
+pub mod LoopLemmas
+pub mod ReachLemmas
+pub mod RingLemmas
