@@ -50,11 +50,11 @@ def tell(text: str) -> None:
 
 
 def main() -> None:
-    """A run of its own process: FOLDER MARKS SECONDS ENGINE DEATHS; ENGINE is 'processes', 'dask' or an address."""
+    """A run of its own process: FOLDER MARKS SECONDS ENGINE DEATHS; ENGINE is 'several', 'dask' or an address."""
     signal.signal(signal.SIGINT, signal.default_int_handler)  # also where a shell has it ignored
     folder, marks = map(pathlib.Path, sys.argv[1:3])
-    engine = engines.by_processes(2)
-    if sys.argv[4] != "processes":
+    engine = engines.several(2)
+    if sys.argv[4] != "several":
         engine = dask_engine.by_dask(None if sys.argv[4] == "dask" else sys.argv[4], 2)
     work = Reversing(marks, b"task 5", int(sys.argv[5]), float(sys.argv[3]))
     with tasks.held(folder):

@@ -33,7 +33,7 @@ from overlayd.store import feature_changes, features
 from overlayd.store.world import World, rings
 from overlayd.web import feature_store, map_scale, rescue
 from overlayd.web.feature_store import FeatureStore, Unlike
-from overlayd.web.front import Front
+from overlayd.web.front import of_store
 from overlayd.web.layer_store import LayerStore
 from overlayd.web.map_features import MapFeatures
 from overlayd.web.rescue import Rescue
@@ -95,7 +95,7 @@ def opened(
         layers = LayerStore(server, scratch, scale, version=1, kept=True, writable=writable, rescue=rescued_by)
         open_ones.callback(layers.close)
         maps = FeatureStore(layers, features.beside(store), parts=parts)
-        yield Client(Front(layers, maps=maps, systems=Systems(scale, projection))), server, layers
+        yield Client(of_store(layers, maps=maps, systems=Systems(scale, projection))), server, layers
 
 
 class Case(unittest.TestCase):
@@ -462,8 +462,8 @@ class Crowded(Case):
 
 class Waiting(Case):
     def test_a_change_whose_turn_does_not_come_is_to_be_asked_again(self) -> None:
-        assert isinstance(self.client.front.features, MapFeatures)
-        turn, before = self.client.front.features.maps._turn, self.layer_texts()
+        (features,) = (one for one in self.client.front.owners if isinstance(one, MapFeatures))
+        turn, before = features.maps._turn, self.layer_texts()
         with turn(), unittest.mock.patch.object(feature_store, "TURN", 0.05):
             told = self.client.ask("/collections/plan/items/2", "DELETE")
         self.assertEqual((told.status, told.headers.get("Retry-After")), (503, "1"))

@@ -171,26 +171,6 @@ class Writing(InFolder):
             self.assertEqual([len(self.features(part)) for part in parts], [3, 3, 1])
             self.assertEqual(self.features("pieces.vrt"), sorted(one for part in parts for one in self.features(part)))
 
-    def test_parts_of_a_larger_run_go_and_what_is_another_s_stays(self) -> None:
-        path, own = str(self.folder / "pieces.gpkg"), self.file("pieces-009.gpkg", "mine")
-        for count, names in ((7, {"pieces-001.gpkg", "pieces-002.gpkg", "pieces-003.gpkg", "pieces.vrt"}),
-                             (4, {"pieces-001.gpkg", "pieces-002.gpkg", "pieces.vrt"}), (2, {"pieces.gpkg"}),
-                             (4, {"pieces-001.gpkg", "pieces-002.gpkg", "pieces.vrt"})):
-            gdal_writing.write(path, self.pieces(count), None, 3)
-            self.assertEqual({one.name for one in self.folder.iterdir()}, {own.name, *names})
-        index = self.file("pieces.vrt", "<OGRVRTDataSource><SrcDataSource>../zones.gpkg</SrcDataSource>")
-        gdal_writing.write(path, self.pieces(2), None, 3)
-        self.assertTrue(index.is_file() and (self.folder / "pieces-002.gpkg").is_file())
-
-    def test_parts_are_not_written_over_what_is_another_s(self) -> None:
-        for name in ("pieces-002.gpkg", "pieces.vrt"):
-            own = self.file(name, "mine")
-            with self.assertRaisesRegex(ReadingFault, f"{own} stands, and was not named"):
-                gdal_writing.write(str(self.folder / "pieces.gpkg"), self.pieces(7), None, 3)
-            self.assertEqual([one.name for one in self.folder.iterdir()], [name])
-            self.assertEqual(own.read_text(), "mine")
-            own.unlink()
-
     def test_exactly_one_part_is_one_file_and_none_is_one_without_features(self) -> None:
         for count in (0, 3):
             self.assertEqual(gdal_writing.write(str(self.folder / "pieces.gpkg"), self.pieces(count), None, 3), count)

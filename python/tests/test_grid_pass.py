@@ -47,7 +47,7 @@ def corner(place: Place) -> Place:
 
 
 @many
-@given(drawn.lists(drawn.floats(-2e4, 2e4)), factors)
+@given(drawn.lists(drawn.floats(-2e4, 2e4) | drawn.integers(-2**27, 2**27).map(lambda one: one / 2**13)), factors)
 def test_a_place_is_that_of_the_decimal_and_lies_in_its_own_pixel(doubles: list[float], factor: Fraction) -> None:
     got = places(np.array(doubles, float), factor)
     spelled = [grid.spelled(one) * factor for one in doubles]

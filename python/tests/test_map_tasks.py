@@ -45,7 +45,7 @@ class InTasks(InFolder):
         self.work, self.marks = self.folder / "work", self.folder / "marks"
         self.marks.mkdir()
 
-    def words(self, seconds: str, engine: str = "processes", deaths: str = "0") -> list[str]:
+    def words(self, seconds: str, engine: str = "several", deaths: str = "0") -> list[str]:
         """The call of a run in a process of its own."""
         return [sys.executable, "-m", "tests.map_works", str(self.work), str(self.marks), seconds, engine,
                 deaths]
@@ -250,41 +250,15 @@ class Engines(WithProcesses):
         self.assertEqual(self.ran(engines.in_process, Reversing(self.marks)), ENDS)
         self.assertEqual(self.processes(), {os.getpid()})
         self.work = self.folder / "other"
-        self.assertEqual(self.ran(engines.by_processes(2), Reversing(self.marks, seconds=0.01)), ENDS)
-        self.assertNotIn(True, map(is_running, self.processes() - {os.getpid()}))
+        self.assertEqual(self.ran(engines.several(2), Reversing(self.marks, seconds=0.01)), ENDS)
 
     def test_no_task_is_none_to_do(self) -> None:
-        self.assertEqual(self.ran(engines.by_processes(2), Refusing(), []), [])
-
-    def test_what_a_dead_worker_had_is_begun_again(self) -> None:
-        self.assertEqual(self.ran(engines.by_processes(2), Reversing(self.marks, b"task 5", 2)), ENDS)
-        self.assertEqual(len(list(self.marks.glob("death *"))), 2)
-
-    def test_a_task_that_kills_each_worker_is_named_and_the_others_are_kept(self) -> None:
-        work = Reversing(self.marks, b"task 5", 100)
-        with self.assertRaisesRegex(engines.TaskFault, "task 5: its worker died 3 times"):
-            self.ran(engines.by_processes(2), work)
-        self.assertEqual(len(list(self.marks.glob("death *"))), 4)  # once among others, and alone three times
-        left = TaskFolder(self.work).left()
-        self.assertIn(5, left)
-        self.assertLess(len(left), 12)
+        self.assertEqual(self.ran(engines.several(2), Refusing(), []), [])
 
     def test_a_task_that_is_refused_is_named(self) -> None:
-        for engine in (engines.in_process, engines.by_processes(2)):
+        for engine in (engines.in_process, engines.several(2)):
             with self.subTest(engine), self.assertRaisesRegex(engines.TaskFault, "task 1: Odd: no good"):
                 self.ran(engine, Refusing(), [b"good", b"bad", b"good"])
-
-    def test_an_interrupt_while_workers_begin_is_not_told_by_these(self) -> None:
-        for seconds in (0.05, 0.15, 0.3):
-            with subprocess.Popen(self.words("0.5"), cwd=TOP, env=SOURCES, stderr=subprocess.PIPE, text=True,
-                                  start_new_session=True) as run:
-                self.addCleanup(run.kill)
-                wait_for(lambda: (self.work / "run.json").exists())
-                time.sleep(seconds)
-                os.killpg(run.pid, signal.SIGINT)  # as a terminal does
-                told = run.communicate(timeout=WAIT)[1]
-            self.assertEqual(told.count("Traceback"), 1, told)  # the own one of map_works.py
-            (self.work / "run.json").unlink()
 
     def test_a_run_that_was_killed_leaves_no_process_and_goes_on(self) -> None:
         with subprocess.Popen(self.words("0.3"), cwd=TOP, env=SOURCES, stderr=subprocess.DEVNULL) as run:

@@ -5,7 +5,6 @@ import json
 import os
 import pathlib
 import subprocess
-import unittest
 from typing import Any
 from unittest import mock
 
@@ -470,7 +469,3 @@ class Outputs(WithMaps):
             raise KeyboardInterrupt
         self.assertEqual({one.name: one.read_bytes() for one in self.folder.iterdir()},
                          {"o.csv": b"before", "a.geojson": self.before})
-
-
-if __name__ == "__main__":
-    unittest.main()

@@ -15,7 +15,7 @@ from overlayd.geometry.plane import turn
 from overlayd.geometry.rings import polygons_of
 from overlayd.store.layers import rings_of_text
 from .common import WithProgram, outcome, path
-from .plain import OPERATIONS, area_twice, below, on, overlay, segments_of
+from .plain import area_twice, below, on, overlay, segments_of
 from .test_layouts import geojson, zigzag
 
 COUNTIES = path("data", "north_carolina.geojson")
@@ -93,7 +93,7 @@ class RoundTrips(WithProgram):
         script = (self.folder / "map.txt").read_text() + "DEFINE both = iceland_110m & iceland_50m\n"
         store = self.store("both.db", script)
         layers = [[ring[:-1] for ring in rings_of_text(line)] for line in script.splitlines() if line[:4] == "PUT "]
-        wanted = polygons_of(overlay(layers, OPERATIONS["&"]))
+        wanted = polygons_of(overlay(layers, "&"))
         told = outcome(to_rings, "--store", store, "--program", self.program, "--exact")[1]
         rings = [ring for polygon in wanted for ring in polygon]
         corners = [(Fraction(x, w), Fraction(y, w)) for ring in rings for x, y, w in ring.corners]
@@ -141,7 +141,7 @@ class Counties(WithProgram):
 
     def test_on_a_common_border_both_are_among_those_that_fit(self) -> None:
         one, other = (set(self.rings[name]) for name in ("Ashe", "Alleghany"))
-        (ax, ay), (bx, by) = sorted(one & other)[0]
+        ax, ay, bx, by = sorted(one & other)[0]
         point = f"{Decimal(ax + bx) / 200000} {Decimal(ay + by) / 200000}".split()
         words = ["--store", self.db, "--names", self.folder / "nc.names.csv", "--program", self.program, "--", *point]
         # Numbers 1 and 2: bits 0 and 1 may be either, and the third number that fits is Surry's.

@@ -214,9 +214,11 @@ class Judges(unittest.TestCase):
 
     def test_faults_of_a_description_are_found(self) -> None:
         from overlayd.web import openapi
+        from overlayd.web.map_api import MapApi
+        from overlayd.web.map_features import MapFeatures
 
-        good = openapi.document("t", "http://127.0.0.1", True,
-                                openapi.Described("m", schemas.properties_of([{"a": 1}], "area")))
+        described = openapi.Described("m", schemas.properties_of([{"a": 1}], "area"))
+        good = openapi.document("t", "http://127.0.0.1", True, described, (MapFeatures, MapApi))
         self.assertEqual(list(Document(good).faults()), [])
         spoilt = (('"operationId": "getApi"', '"operationId": "getStatus"'), ('"in": "path"', '"in": "body"'),
                   ('"required": true', '"required": false'), ('"type": "string"', '"type": "text"'),

@@ -3,7 +3,6 @@
 import random
 import time
 import unittest
-import unittest.mock
 from collections.abc import Callable
 from fractions import Fraction
 from typing import Any
@@ -67,16 +66,8 @@ class PlainOverlay(unittest.TestCase):
         for number in range(120):
             reach = 5 if number % 2 else 14
             layers = [random_rings(source, reach), random_rings(source, reach)]
-            inside = OPERATIONS["&|-^"[number % 4]]
-            check(self, layers, inside, polygons_of(overlay(layers, inside)))
-
-    def test_random_layers_in_a_status_of_short_blocks(self) -> None:
-        source = random.Random(22)
-        with unittest.mock.patch("overlayd.geometry.sweeping.BLOCK_MAX", 2):
-            for number in range(60):
-                layers = [random_rings(source, 9), random_rings(source, 9)]
-                inside = OPERATIONS["&|-^"[number % 4]]
-                check(self, layers, inside, polygons_of(overlay(layers, inside)))
+            operation = "&|-^"[number % 4]
+            check(self, layers, OPERATIONS[operation], polygons_of(overlay(layers, operation)))
 
 
 def ring_pieces(corners: list[tuple[int, int]]) -> list[Piece]:
@@ -128,5 +119,5 @@ class ProgramBeside(WithProgram):
             (columns,) = expressions.boundaries(self.program, [(puts, f"A {operation} B")])
             pieces, missing = layers.pieces_of(columns)
             self.assertEqual(missing, [])
-            self.assertEqual(sorted(pieces), sorted(overlay(given, OPERATIONS[operation])))
+            self.assertEqual(sorted(pieces), sorted(overlay(given, operation)))
             check(self, given, OPERATIONS[operation], polygons_of(pieces))

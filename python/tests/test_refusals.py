@@ -263,7 +263,7 @@ class Bases(RefusalCase):
     """A front behind a server that is asked under a name of its own."""
 
     def setUp(self) -> None:
-        self.behind = Client(front.Front(self.store, base="https://map.example.org/parcels/"))
+        self.behind = Client(front.of_store(self.store, base="https://map.example.org/parcels/"))
 
     def test_links_begin_with_the_base(self) -> None:
         host = {"HTTP_HOST": "map.example.org"}
@@ -297,7 +297,7 @@ class Failures(unittest.TestCase):
         self.scratch = scratch
         self.store = LayerStore(self.server, scratch, testing.map_scale(), version=0, kept=False, writable=True)
         self.addCleanup(self.store.close)
-        self.client = Client(front.Front(self.store))
+        self.client = Client(front.of_store(self.store))
         self.client.change("/collections/A", "PUT", GEOMETRY)
         self.client.change("/collections/I", "PUT", {"definition": "A"})
 

@@ -12,7 +12,7 @@ import pytest
 
 from overlayd.program import Refused, Server, Session
 from overlayd.web import rescue
-from overlayd.web.front import Front
+from overlayd.web.front import of_store
 from overlayd.web.layer_store import LayerStore
 from overlayd.web.rescue import Rescue, put_copy
 from overlayd.web.scratch import Scratch
@@ -78,7 +78,7 @@ class Rescues(unittest.TestCase):
             rescue=Rescue(self.path, program, self.end),
         )
         self.addCleanup(self.store.close)
-        self.client = Client(Front(self.store))
+        self.client = Client(of_store(self.store))
         self.store.change([f"PUT A {SQUARE}"])
 
     def end(self, reason: str) -> None:

@@ -9,7 +9,7 @@ from overlayd.geometry.rings import polygons_of
 from overlayd.store import layers
 from overlayd.store.layers import Columns
 from .common import InFolder, content, fixture, outcome
-from .plain import OPERATIONS, Place, area_twice, overlay
+from .plain import Place, area_twice, overlay
 
 
 def rings_of(columns: dict[str, Columns], layer: str) -> list[list[tuple[bool, list[Place]]]]:
@@ -84,7 +84,7 @@ class Rings(InFolder):
     def test_holes_and_islands_in_each_other(self) -> None:
         frames = [[(-x, -x), (x, -x), (x, x), (-x, x)] for x in (1, 2, 3, 4, 5, 6, 7)]
         aside = [[(x, 10), (x + 2, 10), (x + 2, 12), (x, 12)] for x in (0, 20)]
-        polygons = polygons_of(overlay([frames + aside, []], OPERATIONS["|"]))
+        polygons = polygons_of(overlay([frames + aside, []], "|"))
         corners = [[ring.corners[0][0] for ring in polygon] for polygon in polygons]
         self.assertEqual(corners, [[-7, -6], [-5, -4], [-3, -2], [-1], [0], [20]])
 

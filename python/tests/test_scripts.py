@@ -142,6 +142,16 @@ class ToScript(unittest.TestCase):
         self.assertTrue(content("fixtures", "iceland.txt").decode().startswith(output))
         self.assertIn("layer iceland_50m: polygons 1, steps 452; 902 of 906 coordinates rounded", errors)
 
+    def test_of_a_map_that_is_out_of_range_the_first_few_are_told(self) -> None:
+        text = "".join(f"POLYGON (({x} 5400000, {x} 5400009, {x + 9} 5400009, {x} 5400000))\n"
+                       for x in range(0, 1500, 100))
+        status, output, errors = on_file(to_script, text, "--factor", 1000)
+        self.assertEqual((status, output), (1, ""))
+        self.assertEqual([line[:5] for line in errors.splitlines()], ["refus"] * 10 + ["and 5", "at fa", "no la"])
+        self.assertIn(
+            "and 5 more\nat factor 1000, origin 0 0: 15 shapes are out of range; to be fitted: --factor 1 --origin 704 "
+            "5400004, or --fit\n", errors)
+
 
 def feature(name: str, shift: int = 0, kind: str = "Polygon") -> str:
     ring = f"[[{shift}, 0], [{shift + 5}, 0], [{shift}, 5.0], [{shift}, 0]]"
@@ -152,16 +162,6 @@ def feature(name: str, shift: int = 0, kind: str = "Polygon") -> str:
 
 def collection(*features: str) -> str:
     return '{"type": "FeatureCollection", "features": [' + ", ".join(features) + "]}"
-
-    def test_of_a_map_that_is_out_of_range_the_first_few_are_told(self) -> None:
-        text = "".join(f"POLYGON (({x} 5400000, {x} 5400009, {x + 9} 5400009, {x} 5400000))\n"
-                       for x in range(0, 1500, 100))
-        status, output, errors = on_file(to_script, text, "--factor", 1000)
-        self.assertEqual((status, output), (1, ""))
-        self.assertEqual([line[:5] for line in errors.splitlines()], ["refus"] * 10 + ["and 5", "at fa", "no la"])
-        self.assertIn(
-            "and 5 more\nat factor 1000, origin 0 0: 15 shapes are out of range; to be fitted: --factor 1000 --origin",
-            errors)
 
 
 class Names(unittest.TestCase):

@@ -18,7 +18,7 @@ from typing import Any, NamedTuple
 
 from overlayd.grid import scale as scales
 from overlayd.program import Server
-from overlayd.web.front import Front
+from overlayd.web.front import Front, of_store
 from overlayd.web.layer_store import LayerStore
 from overlayd.web.map_scale import MapScale
 from overlayd.web.scratch import Scratch
@@ -159,7 +159,7 @@ class FrontCase(unittest.TestCase):
             cls.server, scratch, map_scale(**cls.scale), version=version, kept=False, writable=cls.writable
         )
         cls.addClassCleanup(cls.store.close)
-        cls.front = Front(cls.store)
+        cls.front = of_store(cls.store)
         cls.client = Client(cls.front)
 
     @classmethod

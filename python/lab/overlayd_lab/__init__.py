@@ -1,5 +1,5 @@
 """What judges, tries and measures, and what the gate asks of the tree: a package whose programs run at the top, as
-`PYTHONPATH=python/lab python3 -m overlayd_lab.trials.stress PROGRAM`."""
+`PYTHONPATH=python/lab python3 -m overlayd_lab.trials.faults PROGRAM`."""
 
 import pathlib
 import sys

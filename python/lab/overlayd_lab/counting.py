@@ -8,7 +8,6 @@ import os
 import pathlib
 import shutil
 import tempfile
-from collections.abc import Callable
 
 
 def absolute(path: str) -> str:
@@ -55,20 +54,9 @@ class Kept:
         self.folder.mkdir(parents=True, exist_ok=True)
         (self.folder / "store.db").unlink(missing_ok=True)
 
-    def run(self, work: Callable[[pathlib.Path], int], *faults: type[Exception]) -> int:
-        """Does work in the folder that gives how much was wrong, or ends by one of some faults, which is reported and
-        is one thing wrong; the exit status."""
-        try:
-            self.wrong = work(self.folder)
-        except faults as fault:
-            print(f"wrong: {fault}")
-            self.wrong = 1
-        return self.end()
-
-    def end(self) -> int:
-        """Takes the folder away or says where it is, and gives the exit status."""
+    def end(self) -> None:
+        """Takes the folder away or says where it is."""
         if self.wrong:
             print(f"kept in {self.folder}")
         elif not self.is_named:
             shutil.rmtree(self.folder)
-        return 1 if self.wrong else 0

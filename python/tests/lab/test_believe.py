@@ -9,169 +9,20 @@ import pytest
 
 from overlayd_lab.gate.believing import rust
 from overlayd_lab.gate.believing.house import Call, House, Key, Link, Pin
-from overlayd_lab.gate.believing.page import Law, Row, Tables, Told, Word, is_written, page, quoted, with_numbers
+from overlayd_lab.gate.believing.page import Law, Row, Tables, Reading, Word, is_written, page, quoted, with_numbers
 from overlayd_lab.gate.believing.sources import fields_of, read_module, without
 from overlayd_lab.gate.believing.texts import alike, file_of, meanings, names_of, text, twice
 
-LOW = """-- numbers
-use Rattle.std.specs.Prelude.{ℕ, ◌≡◌, twofold}
+from .trees import texts_in, tree_in
 
--- a pair
-pub record Pair : Type 0 where
-  pub left : ℕ
-  pub right : ℕ
-
--- twice
-abbrev pub twice : ℕ → ℕ
-twice n = twofold n
-
--- a way
-pub data Way : Type 0 where
-  up : Way
-  down : Way
-
-abbrev pub ◌>>=◌ : ℕ → ℕ → ℕ
-a >>= b = a
-
--- of no call
-abbrev pub idle : ℕ → ℕ
-idle twice = twice
-
-module _ (p : Pair) where
-  -- of a pair
-  abbrev pub inner : ℕ → ℕ
-  inner n = p.left
-
-  module _ (n : ℕ)
-      (m : ℕ) where
-    abbrev pub Innermost : Type 0
-    -- deep inside
-    Innermost = inner n ≡ m
-
--- a part
-pub record Part : Type 0 where
-  pub whole : Pair
-"""
-HIGH = """-- calls
-pub use Rattle.low.specs.Numbers
-use Rattle.low.specs.Numbers.{twice as double, up, inner, ◌>>=◌, Part}
-use Rattle.low.specs.Numbers as numbers
-use Rattle.low.specs.declared.thing.Thing.{Thing}
-use Rattle.low.specs.declared.thing.Box.{Box}
-use Rattle.high.proofs.Lemmas.{Hidden}
-use Rattle.low.specs.Numbers.{Gone}
-
--- goes up
-abbrev pub Goes : Thing → ℕ → Type 0
-Goes t n = double n ≡ 1
-
-abbrev pub Turns : ℕ → Type 0
-Turns n = record { idle = up; left = n >>= inner n }
-
-abbrev pub Rests : numbers.Pair → ℕ → Type 0
-Rests p double = double ≡ p.left
-
-abbrev pub Opens : Box → Type 0
-Opens b = b.thing ≡ b.thing
-
-abbrev pub Hides : ℕ → Type 0
-Hides n = Hidden n
-
-abbrev pub Lacks : ℕ → Type 0
-Lacks n = Gone n
-
--- handed on
-pub record Handed (n : ℕ) : Type 0 where
-  pub few : Rests (record { left = n }) n
-  pub rest : Part ≡ Part
-      × Part ≡ Part
-
-abbrev pub Gives : ℕ → Type 0
-Gives n = Handed n
-
-abbrev pub Takes : ℕ → Type 0
-Takes n = Handed n → Goes n n
-
-abbrev pub GoesLaw : Type 0
-GoesLaw = (n : ℕ) → Goes n n
-"""
-TOP = """-- from above
-use Rattle.high.specs.Numbers.{Part}
-
-abbrev pub Passed : Part → Type 0
-Passed p = p ≡ p
-"""
-KIT = {"std/specs/Prelude.antt": "pub use Rattle.core.specs.Numbers.{twofold}\n",
-       "core/specs/Numbers.antt": "-- both\nabbrev pub twofold : ℕ → ℕ\ntwofold n = n + n\n"}
-THING = """//! A thing.
-ghost use Rattle.low.specs.Numbers.{Pair, Part};
-pub struct Thing { left: usize }
-impl Model for Thing {
-    ghost Value = { Pair };
-    ghost invariant = { λ t. Part ≡ Part };
-}
-pub struct Other(usize);
-impl Model for Other {
-    ghost Value = { Part };
-}
-/// A box.
-pub struct Box<D: Disk> {
-    pub(crate) thing: Vec<Thing>,
-    other: Other,
-}
-pub trait Store {
-    fn keep(&self) -> usize
-        ensures one { Pair }
-        // The last one.
-        ensures two { Part };
-}
-pub enum Kind {
-    /// One.
-    One { thing: Thing },
-    Two(Box<u8>),
-}
-"""
-CALLING = """//! Calls.
-ghost use Rattle.std.specs.Prelude.{◌≡◌};
-ghost use Rattle.high.specs.Calls.{Goes, Turns, Rests, Opens, Hides, Lacks, Gives, Takes, GoesLaw};
-ghost use Rattle.above.specs.From.{Passed};
-use low::thing::{Kind as Sort, Store, Thing};
-use high::Passing;
-"""
-LIB = "//! All.\npub use low::thing::Thing as Passing;\n"
-BODIES = [("go", "thing: &Thing", "Goes thing.now result"), ("turn", "n: usize", "Turns result"),
-          ("rest", "n: usize", "Rests result"), ("sort", "kind: Sort", "result ≡ result"),
-          ("opens", "n: usize", "Opens result"), ("hide", "n: usize", "Hides result"),
-          ("lack", "n: usize", "Lacks result"), ("give", "n: usize", "Gives result"),
-          ("take", "n: usize", "Takes result"), ("pass", "n: &Passing", "Passed result"),
-          ("store", "store: &Store", "result ≡ result")]
 LINKS = (Link("high", "Calls", "Handed", ("give",), ("take",)),)
 FIELD = (Link("high", "Calls", "Handed", ("give",), ("take",), field="rest"),)
-
-
-def files() -> dict[str, str]:
-    """The small tree."""
-    calls = "".join(
-        f"pub fn {name}({words}) -> usize\n    // Turns is no word of a clause here.\n"
-        f"    ensures first {{ {clause} }}\n{{\n    0\n}}\n"
-        for name, words, clause in BODIES)
-    law = "/// What goes,\n/// goes on.\npub fn goes_law()\n    ensures { GoesLaw }\n{}\n"
-    method = "impl Thing {\n    pub fn look(&self) -> usize\n        ensures { Pair }\n    {\n        0\n    }\n}\n"
-    return {"crates.txt": "# all\nlow:\nhigh: low\nabove: high\n", "crates/low/specs/Numbers.antt": LOW,
-            "crates/high/specs/Calls.antt": HIGH,
-            "crates/high/specs/Lib.antt": "pub mod Calls\npub use Rattle.low.specs.Numbers\n",
-            "crates/above/specs/From.antt": TOP, "crates/low/src/thing.rt": THING, "crates/high/src/lib.rt": LIB,
-            "crates/high/src/calling.rt": CALLING + calls + law + method,
-            **{f"kit/{path}": said for path, said in KIT.items()}}
 
 
 @pytest.fixture
 def top(tmp_path: pathlib.Path) -> pathlib.Path:
     """The small tree, in a folder."""
-    for path, said in files().items():
-        (tmp_path / path).parent.mkdir(parents=True, exist_ok=True)
-        (tmp_path / path).write_text(said)
-    return tmp_path
+    return tree_in(tmp_path, "believe")
 
 
 def calls_of(*names: str) -> list[Call]:
@@ -292,7 +143,7 @@ def test_prints(top: pathlib.Path) -> None:
     """The texts of rows."""
     house = House(top, top / "kit", LINKS)
     tables = small_tables()
-    row = text(Told(house, tables), "both")
+    row = text(Reading(house, tables), "both")
     in_turn = ["abbrev pub twice", "-- goes up\nabbrev pub Goes", "Takes n = Handed n → Goes n n"]
     assert in_turn == sorted(in_turn, key=row.index)
     assert "What to believe of: both (4 definitions, 12 lines)" in row and "idle" not in row
@@ -308,21 +159,21 @@ def test_prints(top: pathlib.Path) -> None:
                                "/// A box.\npub struct Box<D: Disk> {\n    pub(crate) thing: Vec<Thing>,\n}\n"),
                               ("sort", "A type of low: Kind",
                                "pub enum Kind {\n    /// One.\n    One { thing: Thing },\n    Two(Box<u8>),\n}\n")]:
-        looked = text(Told(house, Tables("", calls_of(call), [], [], [])), call)
+        looked = text(Reading(house, Tables("", calls_of(call), [], [], [])), call)
         assert f"==== {head}\n\n{lines}" in looked, looked
         assert call == "sort" or looked.index(f"==== {head}") < looked.index("abbrev pub Opens"), looked
     cut = Tables("", calls_of("store"), [Row("less", ("store",), "Less.", ("Store: two",))], [], [])
-    assert "ensures one" in text(Told(house, cut), "less") and "ensures two" not in text(Told(house, cut), "less")
-    less = text(Told(house, cut), "less")
+    assert "ensures one" in text(Reading(house, cut), "less") and "ensures two" not in text(Reading(house, cut), "less")
+    less = text(Reading(house, cut), "less")
     assert less.index("A type of low: Store") < less.index("pub record Pair")
-    assert ("    go: first" in text(Told(house, tables), "few")
-            and "{ Goes thing.now result }  // left out" in text(Told(house, tables), "few"))
-    assert "    Handed.rest" in text(Told(house, tables), "part")
-    every = text(Told(house, tables), "all together")
+    assert ("    go: first" in text(Reading(house, tables), "few")
+            and "{ Goes thing.now result }  // left out" in text(Reading(house, tables), "few"))
+    assert "    Handed.rest" in text(Reading(house, tables), "part")
+    every = text(Reading(house, tables), "all together")
     assert (all(f"==== {call.title}: A call." in every for call in tables.calls)
             and "; 26 lines with contracts, types and these" in every), every
-    assert ("  -- fields left out, of which the sentence may speak: few" in text(Told(house, tables), "part")
-            and "pub few" not in text(Told(house, tables), "part"))
+    assert ("  -- fields left out, of which the sentence may speak: few" in text(Reading(house, tables), "part")
+            and "pub few" not in text(Reading(house, tables), "part"))
 
 
 def test_proves(top: pathlib.Path) -> None:
@@ -330,7 +181,7 @@ def test_proves(top: pathlib.Path) -> None:
     house = House(top, top / "kit", LINKS)
     for shown in (("goes_law",), ()):
         tables = Tables("", calls_of("go", "rest"), [], [], [Law("go", "high/src/calling.rt", "goes_law")], shown)
-        row = text(Told(house, tables), "rest")
+        row = text(Reading(house, tables), "rest")
         assert ("goes_law" in row) == ("-- goes up" in row) == ("-- both" in row) == bool(shown), row
         assert "(2 definitions, 6 lines)" in row, row
     head = ["impl Thing {", "pub fn look(&self) -> usize", "    ensures { Pair }"]
@@ -359,10 +210,10 @@ def test_compares(top: pathlib.Path) -> None:
               "| To read | Definitions | Lines | In all |\n|---|---|---|---|\n"
               "| LOCATE | 1 | 2 | 1 |\n| new files | 3 | 4 | 1 |\n| a crash | 3 | 4 | 1 |\n| most | 3 | 4 | 1 |\n"
               "| all | 5 | 1,006 | 9 |\n")
-    told = with_numbers(readme, rows)
-    assert told == readme[: readme.index("| LOCATE")] + (
+    numbered = with_numbers(readme, rows)
+    assert numbered == readme[: readme.index("| LOCATE")] + (
         "| LOCATE | 4 | 1,009 | 1,010 |\n| new files | 5 | 8 | 21 |\n| a crash | 5 | 9 | 22 |\n"
-        "| most | 5 | 3 | 23 |\n| all | 6 | 7 | 24 |\n"), told
+        "| most | 5 | 3 | 23 |\n| all | 6 | 7 | 24 |\n"), numbered
     kept, other = top / "kept.md", top / "other.md"
     kept.write_text("kept")
     assert is_written(kept, "kept") and not is_written(kept, "more") and not is_written(other, "none")
@@ -370,7 +221,7 @@ def test_compares(top: pathlib.Path) -> None:
 
 def test_reads() -> None:
     """Modules within modules, the lines that are shown, and trees of `use`."""
-    module = read_module(LOW)
+    module = read_module(texts_in("believe")["crates/low/specs/Numbers.antt"])
     deep = module.definitions["Innermost"]
     assert deep.within == "module _ (p : Pair) where\nmodule _ (n : ℕ) (m : ℕ) where" and deep.lines == 3, deep
     assert module.definitions["Part"].within == "" and module.definitions["Part"].lines == 3

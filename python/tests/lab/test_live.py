@@ -196,7 +196,7 @@ def test_right_words(place: Place) -> None:
     assert place.file("other").read_text() == "layers 0\n"
 
 
-def told(error: str, file: str, reason: str = "") -> str:
+def fault(error: str, file: str, reason: str = "") -> str:
     """What is reported on standard error: a fault, then the file that it is about and what the system said of it."""
     return f"error {error}\n{file}{': ' if reason else ''}{reason}\n"
 
@@ -339,28 +339,28 @@ def test_examples_by_both_programs(place: Place) -> None:
 def test_killed_and_opened_again(place: Place) -> None:
     """What a session read to be durable is there after the program was killed amid further lines."""
     place.run("--store", "map", "--create")
-    told = 0
+    known = 0
     for round_number in range(6):
         with place.started("--store", "map") as run:
             one = run.sessions[0]
             number = int(one.ask("SYNC").split()[1])
-            assert (round_number, number >= told) == (round_number, True)
+            assert (round_number, number >= known) == (round_number, True)
             # Version n has a layer that is n wide.
             assert one.ask(f"LOCATE A {number} 5") == ("edge" if number else "error 10 unknown layer")
             for width in range(number + 1, number + 6):
                 assert one.ask(f"PUT A POLYGON ((0 0, {width} 0, {width} 10, 0 10, 0 0))") == f"ok {width}"
                 if width % 2:
-                    told = int(one.ask("SYNC").split()[1])
-                    assert told == width
+                    known = int(one.ask("SYNC").split()[1])
+                    assert known == width
             last = number + 5
             one.send("".join(f"PUT A POLYGON ((0 0, {w} 0, {w} 10, 0 10, 0 0))\nSYNC\n"
                              for w in range(last + 1, last + 40)))
             for _ in range(round_number * 5):
                 word, durable = one.reply().split()
-                told = max(told, int(durable)) if word == "durable" else told
+                known = max(known, int(durable)) if word == "durable" else known
             run.kill()
     status, text, errors = place.run("--store", "map", script="SYNC\n", program=place.overlayd)
-    assert (status, errors, int(text.split()[1]) >= told) == (0, "", True)
+    assert (status, errors, int(text.split()[1]) >= known) == (0, "", True)
 
 
 def test_stores_that_are_refused(place: Place) -> None:
@@ -375,7 +375,7 @@ def test_stores_that_are_refused(place: Place) -> None:
         (["in", "--read-only"], "30 device", NOT_PLAIN), (["/dev/null", "--read-only"], "30 device", NOT_PLAIN),
         (["byte", "--read-only"], "32 not a store", ""),
     ):
-        assert (words, *place.run("--store", *words, "in", "out")) == (words, 1, "", told(error, words[0], reason))
+        assert (words, *place.run("--store", *words, "in", "out")) == (words, 1, "", fault(error, words[0], reason))
     assert not place.file("absent").exists()
 
 
@@ -387,17 +387,17 @@ def test_damaged_stores(place: Place) -> None:
         place.file("map").write_bytes(damage)
         for words in ([], ["--read-only"]):
             assert (number, *place.run("--store", "map", *words)) == \
-                (number, 1, "", told(f"33 damaged {number}", "map"))
+                (number, 1, "", fault(f"33 damaged {number}", "map"))
         assert place.file("map").read_bytes() == damage
 
 
 def test_pairs_that_cannot_be_opened(place: Place) -> None:
     place.file("in").write_text(A)
-    assert place.run("absent", "out") == (1, "", told("48 read", "absent", ABSENT))
-    assert place.run("in", "absent/out") == (1, "", told("48 read", "absent/out", ABSENT))
-    assert place.run("in", "out", "in", ".") == (1, "", told("48 read", ".", FOLDER))
-    assert place.run("in", "/dev/full") == (1, "", told("49 write", "/dev/full"))
-    assert place.run("in", "out", "in", "/dev/full", "in", "last") == (1, "", told("49 write", "/dev/full"))
+    assert place.run("absent", "out") == (1, "", fault("48 read", "absent", ABSENT))
+    assert place.run("in", "absent/out") == (1, "", fault("48 read", "absent/out", ABSENT))
+    assert place.run("in", "out", "in", ".") == (1, "", fault("48 read", ".", FOLDER))
+    assert place.run("in", "/dev/full") == (1, "", fault("49 write", "/dev/full"))
+    assert place.run("in", "out", "in", "/dev/full", "in", "last") == (1, "", fault("49 write", "/dev/full"))
     # A folder opens, and cannot be read: its session ends so, and says so.
     place.file("folder").mkdir()
     assert place.run("--store", "map", "--create", "folder", "first", "in", "second") == (1, "", "")
@@ -411,10 +411,10 @@ def test_files_in_use(place: Place) -> None:
     place.file("in").write_text(A)
     for words in ([], ["--read-only"]):
         assert (words, *place.run("--store", "map", *words, "in", "map")) == \
-            (words, 1, "", told("48 read", "map", IN_USE))
-    assert place.run("--store", "map", "map", "out") == (1, "", told("48 read", "map", IN_USE))
-    assert place.run("in", "in") == (1, "", told("48 read", "in", IN_USE))
-    assert place.run("in", "out", "in", "out") == (1, "", told("48 read", "out", IN_USE))
+            (words, 1, "", fault("48 read", "map", IN_USE))
+    assert place.run("--store", "map", "map", "out") == (1, "", fault("48 read", "map", IN_USE))
+    assert place.run("in", "in") == (1, "", fault("48 read", "in", IN_USE))
+    assert place.run("in", "out", "in", "out") == (1, "", fault("48 read", "out", IN_USE))
     assert (place.file("map").read_bytes(), place.file("in").read_text()) == (whole, A)
 
 
@@ -423,7 +423,7 @@ def test_replies_go_into_no_store(place: Place) -> None:
     left or that is damaged."""
     whole = made(place)
     place.file("in").write_text(A)
-    refused = (1, "", told("48 read", "map", "it is a store"))
+    refused = (1, "", fault("48 read", "map", "it is a store"))
     torn, cut = whole[:16] + bytes(48) + whole[64:], b"\0" + whole[1:4096] + b"\0" + whole[4097:]
     for store in (whole, torn, cut, whole[:4096]):
         place.file("map").write_bytes(store)
@@ -441,7 +441,7 @@ def test_a_full_store(place: Place) -> None:
     with place.started("--store", "map", "--create", "--max-blocks", "4") as run:
         one = run.sessions[0]
         assert [one.ask(A.strip()), one.ask("SYNC"), one.ask("LOCATE A 2 2")] == ["ok 1", "error 31 full", "in"]
-        assert run.end() == (1, told("31 full", "map"))
+        assert run.end() == (1, fault("31 full", "map"))
     assert place.run("--store", "map", "--max-blocks", "5", script="LAYERS\n" + A + "SYNC\n") == \
         (0, "layers 0\nok 1\ndurable 1\n", "")
 
@@ -492,13 +492,13 @@ def test_read_by_several_at_once(place: Place) -> None:
             assert [one.ask("SYNC"), one.ask("LAYERS")] == ["error 30 device", "layers 4"]
             assert [one.reply().split()[0] for _ in range(4)] == ["A", "B", f"C{k}", "D"]
         # Nobody writes to it meanwhile.
-        assert place.run("--store", "map") == (1, "", told("30 device", "map", IN_USE))
+        assert place.run("--store", "map") == (1, "", fault("30 device", "map", IN_USE))
         assert place.run("--store", "map", program=place.overlayd) == (1, "", "error 30 device\n")
         assert [run.end() for run in runs] == [(0, "")] * 3
     assert place.file("map").read_bytes() == before
     with place.started("--store", "map") as run:
         assert run.sessions[0].ask("SYNC") == "durable 2"
-        assert place.run("--store", "map", "--read-only") == (1, "", told("30 device", "map", IN_USE))
+        assert place.run("--store", "map", "--read-only") == (1, "", fault("30 device", "map", IN_USE))
         assert run.end() == (0, "")
 
 
@@ -516,7 +516,7 @@ def test_read_where_nothing_can_be_written(place: Place) -> None:
     place.folder.chmod(0o555)
     try:
         with own.started("--store", "map", user=user) as run:
-            assert run.end() == (1, told("30 device", "map", "Permission denied (os error 13)"))
+            assert run.end() == (1, fault("30 device", "map", "Permission denied (os error 13)"))
         with own.started("--store", "map", "--read-only", user=user) as run:
             one = run.sessions[0]
             assert [one.ask("LOCATE B 5 5"), one.ask(f"PUT C {SQUARE}"), one.ask("SYNC")] == \
@@ -533,12 +533,12 @@ def test_an_opening_that_has_to_write(place: Place) -> None:
     for gate in (0, 4096):
         cut = whole[:gate] + b"\0" + whole[gate + 1 :]
         place.file("map").write_bytes(cut)
-        assert (gate, *place.run("--store", "map", "--read-only")) == (gate, 1, "", told("30 device", "map"))
+        assert (gate, *place.run("--store", "map", "--read-only")) == (gate, 1, "", fault("30 device", "map"))
         assert place.file("map").read_bytes() == cut
     assert place.run("--store", "map", script="DROP B\n") == (0, "ok 3\n", "")
     assert place.run("--store", "map", "--read-only", script="LAYERS\n")[0] == 0
     assert place.run("--store", "new", "--create") == (0, "", "")
-    assert place.run("--store", "new", "--read-only") == (1, "", told("30 device", "new"))
+    assert place.run("--store", "new", "--read-only") == (1, "", fault("30 device", "new"))
 
 
 # ---- one program a file
@@ -550,7 +550,8 @@ def test_a_second_program(place: Place) -> None:
         one = run.sessions[0]
         assert [one.ask(A.strip()), one.ask("SYNC")] == ["ok 1", "durable 1"]
         before = place.file("map").read_bytes()
-        for program, refused in ((place.live, told("30 device", "map", IN_USE)), (place.overlayd, "error 30 device\n")):
+        for program, refused in ((place.live, fault("30 device", "map", IN_USE)),
+                                 (place.overlayd, "error 30 device\n")):
             for words in ([], ["--create"]):
                 assert (words, *place.run("--store", "map", *words, script=A, program=program)) == \
                     (words, 1, "", refused)
@@ -574,8 +575,8 @@ def test_a_lock_after_a_failure(place: Place) -> None:
         assert place.run("--store", "map", script="SYNC\n", program=place.overlayd) == (1, "", "error 30 device\n")
         for words in ([], ["--read-only"]):
             assert (words, *place.run(*words, "--store", "map", script="SYNC\n")) == \
-                (words, 1, "", told("30 device", "map", IN_USE))
-        assert run.end() == (1, told("30 device", "map"))
+                (words, 1, "", fault("30 device", "map", IN_USE))
+        assert run.end() == (1, fault("30 device", "map"))
     assert place.run("--store", "map", script="SYNC\n") == (0, "durable 1\n", "")
 
 

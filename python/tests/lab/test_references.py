@@ -143,7 +143,7 @@ def test_the_vectors_of_named_points(name: str, point: str) -> None:
 @pytest.mark.parametrize("head, cell, gives", [(head, *row) for head in HEADS for row in table_behind(PAGE, head)])
 def test_the_files_of_the_page(head: str, cell: str, gives: str) -> None:
     base = re.split(r"\n\n", PAGE[PAGE.index(head):])[0].replace("\n", " ")
-    lines = read_store.told(file_of_a_row(changed(read_store.six_blocks(VECTORS), codes(base)), cell))
+    lines = read_store.summary(file_of_a_row(changed(read_store.six_blocks(VECTORS), codes(base)), cell))
     wanted = codes(gives)
     assert (lines[:1] + lines[-1:] if len(wanted) == 2 else lines[:1]) == wanted
 

@@ -11,78 +11,9 @@ import pytest
 from overlayd_lab import TOP
 from overlayd_lab.gate import rooms
 
-SOURCE = """//! Things, and what
-//! is made of them.
+from .trees import texts_in
 
-/// How many there are.
-pub const THINGS_MAX: usize = 3_000;
-
-const WIDTH: u8 = 1 << 2;
-
-const ALL: Things = Things {
-    width: WIDTH,
-};
-
-impl<D: Disk<u8>> Thing<D> {
-    /// Makes one.
-    pub fn made(
-        self,
-    ) -> usize
-    {
-        inner()
-    }
-
-    // Kept by it.
-    pub(crate) fn kept(&self) -> u8 {
-        fn within() {}
-    }
-}
-
-impl<'a> fmt::Display for Thing<'a> {
-    fn fmt(&self) {}
-}
-
-pub trait Named {
-    fn name() -> u8;
-}
-
-impl<D> Thing<D>
-where
-    D: Disk,
-{
-    fn further(self) {}
-}
-
-/// Opens it: the first
-/// sentence. And more.
-///
-/// A second part.
-// Why so.
-#[inline]
-pub fn open<D: Disk>(disk: D) -> usize
-where
-    D: Send,
-{
-    1
-}
-
-fn inner() -> usize {
-    1
-}
-"""
-FILE = """## one
-
-### crates/one/src/thing.rt
-
-Things, and what is made of them.
-
-- **`THINGS_MAX`** = 3,000: How many there are.
-- **`Thing::made`**: Makes one.
-- `Thing::kept`: Kept by it.
-- **`open`**: Opens it: the first sentence.
-
-Also `WIDTH` = 1 << 2, `ALL`, **`Thing as Display::fmt`**, `Named::name`, `Thing::further`, `inner`.
-"""
+SOURCE, FILE = (texts_in("rooms")[name] for name in ("thing.rt", "page.md"))
 
 
 @pytest.fixture

@@ -2,9 +2,7 @@
 
 from __future__ import annotations
 
-import contextlib
 import pathlib
-import random
 import shutil
 import subprocess
 from typing import Any
@@ -13,9 +11,9 @@ import pytest
 
 from overlayd.grid.limits import COLUMNS
 from overlayd_lab import read_programs, unproved
-from overlayd_lab.measures import instructions, live, serving, store
+from overlayd_lab.measures import peers, serving
 from overlayd_lab.reference import judging, model, read_store
-from overlayd_lab.trials import covers, damages, live_stress, old_files, stops
+from overlayd_lab.trials import covers, damages, live_stress, old_files
 
 needs_gcc = pytest.mark.skipif(not shutil.which("gcc"), reason="no gcc")
 
@@ -85,28 +83,6 @@ def test_a_live_run_is_judged(events: list[tuple[Any, ...]], left: tuple[int, li
     assert is_right(events, left) == wanted
 
 
-# ---- stops.py
-
-
-def test_calls_are_read_of_a_trace() -> None:
-    trace = "\n".join([
-        r'7 openat(AT_FDCWD, "\x61", O_RDWR|O_CREAT, 0666) = 4', r'7 pwrite64(4, "\x01\x02", 2, 3) = 2',
-        r"8 fdatasync(4 <unfinished ...>", r'7 read(0, "\x0a", 65536) = 1', r"8 <... fdatasync resumed>) = 0",
-        r'7 pwrite64(5, "\x01", 1, 0) = 1', r"7 close(4) = 0", r"7 fdatasync(4) = 0",
-    ])
-    events = [("write", 3, b"\x01\x02"), ("read", b"\n"), ("sync",)]
-    assert stops.events_of(trace, "a") == events
-
-
-def test_files_that_a_stop_may_leave() -> None:
-    made = stops.files_of(b"ab", [(1, b"x"), (2, b"yz")], random.Random(1))
-    files = {stops.laid(b"ab", writes).ljust(length, b"\0") for writes, length in made}
-    kept = {b"ab", b"ax", b"abyz", b"axyz", b"ab\0\0", b"ax\0\0", b"aby", b"axy", b"ab\0z", b"ax\0z"}
-    assert kept <= files and stops.laid(b"ab", [(3, b"x")]) == b"ab\0x"
-    assert len(stops.sets_of(6, random.Random(1))) == 64
-    assert [len(list(stops.parts_of(0, bytes(n)))) for n in (1, 48, 4096)] == [5, 5, 17]
-
-
 # ---- damages.py: the files of format 1, by the reader that stands by itself
 
 
@@ -144,20 +120,6 @@ def test_programs_stand_side_by_side() -> None:
 
 
 @needs_gcc
-def test_the_bare_pipe(tmp_path: pathlib.Path) -> None:
-    """By one session and by four."""
-    client = live.Client(tmp_path)
-    with live.served([client.program, "echo"]) as (_, [pair]):
-        times = client.ask(pair, ["LOCATE A 1 1", "LOCATE A 2 2", "x" * 60000])
-        taken = client.together([pair], ["LOCATE A 1 1"], 3)
-    with contextlib.ExitStack() as stack:
-        pairs = [stack.enter_context(live.served([client.program, "echo"]))[1][0] for _ in range(live.SESSIONS)]
-        taken = min(taken, client.together(pairs, ["LOCATE A 1 1"] * 9, 2))
-    assert times.replies == ["out"] * 3 and min(times.taken) > 0 and taken > 0
-    assert live.Times([4, 1, 3, 2], []).share(0.5) == 3 and live.Times([4, 1, 3, 2], []).share(0.99) == 4
-
-
-@needs_gcc
 def test_syncs_by_c(tmp_path: pathlib.Path) -> None:
     subprocess.run(["gcc", "-O2", "-Wall", "-o", tmp_path / "sync", serving.HERE / "sync.c"], check=True)
     assert serving.Runs("", tmp_path).commit_of_c(3, 2) > 0
@@ -165,27 +127,10 @@ def test_syncs_by_c(tmp_path: pathlib.Path) -> None:
     assert serving.ring(4, 0, 0, 10) == "POLYGON ((10 0, 0 10, -10 0, 0 -10, 10 0))"
 
 
-def test_a_file_with_all_its_tiles() -> None:
-    tile = {c: store.tile_record(c, 3, store.short_piece) for c in range(COLUMNS)}
-    tile[9] = store.tile_record(9, 3, store.crossed_piece)
-    lines = read_store.told(store.store([(b"A", store.zigzag(4), None), (b"I", b"A", tile)]))
-    assert lines[0] == "version 2"
-    assert [line for line in lines if line.startswith("tile ")] == [f"tile I {c} 3" for c in range(COLUMNS)]
-
-
-def test_scripts_of_instructions() -> None:
-    assert len(dict(instructions.cases(instructions.SHAPES))) == len(instructions.SHAPES) + 1
-    asked = instructions.script(instructions.SQUARES, 2, 3, 17)
-    assert len([line for line in asked if line.startswith("WAIT ")]) == 2
-    assert asked.count("EDGES I0 16") == 3 and "EDGES I0 17" not in asked
-
-
-@pytest.mark.parametrize("counts, peers, line", [
-    ([(1000000, 500000), (2000000, 250000)], [], "| x | 1.000, 2.000 | 0.500, 0.250 | 1.50 times |"),
-    ([(1000000, 500000)], [], "| x | 1.000 | 0.500 |  |"),
-    ([(1000000, 500000)], [3000000], "| x | 1.000 | 0.500 |  | 3.000: 0.50 |"),
-    ([(1000000, 500000), (500000, 0)], [2000000],
-     "| x | 1.000, 0.500 | 0.500, 0.000 | 0.33 times | 2.000: 0.75, 0.25 |"),
-])
-def test_a_line_of_instructions(counts: list[tuple[int, int]], peers: list[int], line: str) -> None:
-    assert instructions.row("x", counts, *[peers] * bool(peers)) == line
+@pytest.mark.parametrize("family", peers.FAMILIES)
+def test_layers_beside_peers(family: str) -> None:
+    """Two, of about as many edges as were asked for, from one end of the plane to the other."""
+    layers = peers.over_all_columns(peers.FAMILIES[family](64))
+    edges = [sum(len(ring) - 1 for ring in layer) for layer in layers]
+    assert len(edges) == 2 and max(edges) == 64 and max(x for layer in layers for r in layer for x, _ in r) > 990_000
+    assert peers.text_of([[(0, 0), (1, 2)]]) == "MULTIPOLYGON (((0 0, 1 2)))"

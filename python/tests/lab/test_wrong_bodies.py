@@ -11,54 +11,11 @@ import pytest
 from overlayd_lab.gate import edits, functions, refusals
 from overlayd_lab.gate.edits import BESIDE, CONTROL, REFUTATION, TIERS, Edit, Pair
 from overlayd_lab.gate.wrong_bodies import (
-    UNREFUSED, Change, Outcome, Prover, Trial, changed_by, groups, lack_of, match, told, with_holes)
+    UNREFUSED, Change, Outcome, Prover, Trial, changed_by, counts, groups, lack_of, match, report, with_holes)
 
-SOURCE = """//! Things.
+from .trees import texts_in
 
-const STEPS: u8 = 3;
-
-impl<D: Disk<u8>> Thing<D> {
-    /// Makes one.
-    pub fn made(
-        self,
-    ) -> usize
-        ensures { result ≡ 1 }
-    {
-        inner()
-    }
-}
-
-impl From<Fault> for Other {
-    fn from(fault: Fault) -> Other {
-        further(STEPS)
-    }
-}
-
-impl Drop for Other {
-    fn drop(self) {}
-}
-
-pub struct Thing<D>(D);
-
-pub fn law() {}
-
-pub struct Wide {
-    width: u8,
-}
-
-fn inner() -> usize {
-    for _ in 0..STEPS {}
-    1
-}
-
-fn outer() -> usize {
-    inner()
-}
-
-trait Named {
-    fn name() -> u8;
-}
-"""
+SOURCE = texts_in("wrong_bodies")["thing.rt"]
 MADE, FROM, INNER, OUTER = "thing::Thing::made", "thing::OtherFromFault::from", "thing::inner", "thing::outer"
 ANSWERS, SEARCHES = "proofs/thing/Thing/made/Answers.antt", "proofs/thing/outer/Answers.antt"
 TEXTS = {"src/thing.rt": SOURCE, "proofs/Laws.antt": "law\n", ANSWERS: "returns : goal\nreturns c = refl\n",
@@ -141,7 +98,7 @@ def top(tmp_path: pathlib.Path) -> pathlib.Path:
     return tmp_path
 
 
-class Told(Prover):
+class SmallProver(Prover):
     """A prover that says what stands here."""
 
     def __init__(self, refused: str = "") -> None:
@@ -153,14 +110,14 @@ class Told(Prover):
         if "proofs/thing/inner/Proof.antt" in texts:
             return "./proofs/thing/inner/Proof.antt: error[reserved-name]: rattle generates the module\n\n"
         self.asked.append([word for word in words if "::" in word])
-        told = {name: "not proved" if name == self.refused else "no holes" for name in (MADE, FROM, INNER, OUTER)}
+        sayings = {name: "not proved" if name == self.refused else "no holes" for name in (MADE, FROM, INNER, OUTER)}
         lines: list[str] = []
         for change, (line, name, said) in SAYS.items():
             if change in texts["src/thing.rt"]:
                 lines.append(line)
-                told[name] = said or "not proved; it stands on what antt refuses"
-        lines += [f"fn one::{name}: {said}" for name, said in told.items()]
-        is_refused = any(said.startswith(refusals.REFUSED) for said in told.values())
+                sayings[name] = said or "not proved; it stands on what antt refuses"
+        lines += [f"fn one::{name}: {said}" for name, said in sayings.items()]
+        is_refused = any(said.startswith(refusals.REFUSED) for said in sayings.values())
         last = ("logic=not-proved" if is_refused else "logic=unknown" if "loop {}" in texts["src/thing.rt"]
                 else "logic=proved")
         return "\n".join([*lines, "only=3 holes=1" if words else last, ""])
@@ -171,9 +128,9 @@ def case(name: str, beside: str = "") -> Edit:
     return Edit("one", name, (Pair("src/thing.rt", *CASES[name][:2]),), beside)
 
 
-def tried(names: list[str], refused: str = "", beside: tuple[Edit, ...] = ()) -> tuple[Trial, Told]:
+def tried(names: list[str], refused: str = "", beside: tuple[Edit, ...] = ()) -> tuple[Trial, SmallProver]:
     """A trial, after it, of some of the edits that stand here, and of controls."""
-    prover = Told(refused)
+    prover = SmallProver(refused)
     given = [*map(case, names), *beside]
     trial = Trial(prover, "one", TEXTS, given)
     trial.run(is_proved=False)
@@ -280,11 +237,19 @@ def test_controls() -> None:
         ({other: written}, 0, "at a written proof: 1, 0 of them with a control, 0 with a refutation"),
         ({other: Outcome(False, UNREFUSED)}, 1, "not refused 1"),
     ):
-        lines, count = told([*outcomes], outcomes)
+        lines, count = report([*outcomes], outcomes)
         assert count == failed and lines[-1] == last, lines
+    # One of which an operation may go wrong falls at that too; unless that is shown, it lacks a control.
+    unsafe, at_sum = Edit("one", "sum_overflows", pairs), refusals.Refusal(refusals.OPERATION_KIND, "sum")
+    assert counts(unsafe, at_sum) and not counts(other, at_sum)
+    guarded = dataclasses.replace(unsafe, beside=CONTROL)
+    for end, given, failed in ((refusals.SHOWN, [unsafe], 0), ("", [unsafe], 1), ("", [unsafe, guarded], 0)):
+        outcomes = {unsafe: Outcome(True, f"an operation{end}"), guarded: unrefused}
+        assert report(given, {one: outcomes[one] for one in given})[1] == failed, end
     # Of the goals of one function that is told which says most.
     ends = (refusals.SHOWN, "", refusals.WRITTEN, refusals.LIMIT)
-    assert [refusals.Refusal(f"a clause{end}", "returns").rank for end in ends] == [0, 1, 2, 3]
+    kinds = [*(f"a clause{end}" for end in ends), refusals.OPERATION_KIND, refusals.GONE_KIND]
+    assert [refusals.Refusal(kind, "returns").rank for kind in kinds] == [0, 1, 2, 3, 4, 5]
 
 
 def test_tried(top: pathlib.Path) -> None:
@@ -358,7 +323,7 @@ def test_faults(top: pathlib.Path, home: pathlib.Path) -> None:
 
 def test_ages(top: pathlib.Path) -> None:
     """Looks at a library that is kept from an earlier run."""
-    prover = Told()
+    prover = SmallProver()
     prover.top = prover.over = top
     text = top / "crates" / "kept" / "src" / "thing.rt"
     folder = prover.library("kept") / "kept.rlib"

@@ -24,6 +24,9 @@ entries:
     control
     ..
 
+A wrong body whose name ends with _overflows or _panics counts also where an operation may go wrong: unless the prover
+found values at which it does, it owes a control.
+
 A control leaves what its function means as it was, in a shape like that of the wrong body: one that falls at a proof
 that was written for the text as it is may fall by its shape alone, and its control shows it. A refutation changes the
 clause at which its wrong body falls into what that does instead, which contradicts the clause: the wrong body is proved
@@ -63,6 +66,8 @@ ASKED = (
     "batch_prefix_kept", "number_for_each_command", "opened_without_a_sync", "answers_from_a_private_version",
     "commits_a_version_of_its_own",
 )
+# How the name of a wrong body ends whose operation may go wrong.
+UNSAFE = ("_overflows", "_panics")
 
 
 class Misfit(Exception):
@@ -107,6 +112,11 @@ class Edit:
     def is_asked(self) -> bool:
         """Whether it is a wrong body that was asked for."""
         return not self.beside and any(f"_{self.name}".endswith(f"_{name}") for name in ASKED)
+
+    @property
+    def is_unsafe(self) -> bool:
+        """Whether it is a wrong body of which an operation may go wrong."""
+        return not self.beside and self.name.endswith(UNSAFE)
 
     def made(self, texts: dict[str, str]) -> dict[str, str]:
         """The texts that the edit makes of others."""

@@ -5,7 +5,8 @@ called. `Shown to be false` stands where the prover found and checked values at 
 closes it; `at its written proof` where there was one that was written for the text as it is: whether the goal could be
 proved otherwise, that does not show; nor does `at a limit of the search`, where the prover gave up. Nothing is known of
 the contract where it only finds that a written proof names what the edit has taken away (`a name that is gone`), that
-an operation may go wrong, or that a loop may not end.
+an operation may go wrong, or that a loop may not end; but where the name of an edit says that its operation may go
+wrong, that is its meaning (`edits.py`).
 """
 
 from __future__ import annotations
@@ -84,9 +85,15 @@ class Refusal:
         return not self.kind.startswith(UNMEANT)
 
     @property
+    def is_of_operation(self) -> bool:
+        """Whether it says that an operation may go wrong."""
+        return self.kind.startswith(OPERATION_KIND)
+
+    @property
     def rank(self) -> int:
-        """How little it says: least where it says nothing of the contract, most where the goal is shown to be false."""
-        return MANNERS.index(manner_of(self.kind)) if self.is_meant else len(MANNERS)
+        """How little it says: least where it says nothing of the contract nor of an operation, most where the goal is
+        shown to be false."""
+        return MANNERS.index(manner_of(self.kind)) if self.is_meant else len(MANNERS) + (not self.is_of_operation)
 
 
 def kind_of(goal: str) -> str:
@@ -144,8 +151,8 @@ def of_line(said: str) -> Refusal | None:
     """What a goal that is open at a line of a source says."""
     asked = ASKED.search(said)
     if asked:
-        told = next((end for words, end in SAID.items() if words in said), "")
-        return Refusal(kind_of(asked["goal"]) + told, asked["goal"])
+        note = next((end for words, end in SAID.items() if words in said), "")
+        return Refusal(kind_of(asked["goal"]) + note, asked["goal"])
     return Refusal("an invariant", "?") if LENT.match(said) else None
 
 
@@ -185,20 +192,20 @@ class Verdict:
     """What one check said: whether it came to its end, what of each function, and where some goal had no proof."""
 
     is_reached: bool
-    told: dict[str, str]
+    sayings: dict[str, str]
     open: list[tuple[str, Refusal]]
     first: str
 
     def is_unrefused(self, function: str) -> bool:
         """Whether a function, with all within it, is as good as proved."""
-        said = [text for name, text in self.told.items() if is_of(name, function)]
-        return self.is_reached and function in map(holder, self.told) and all(one.startswith(UNREFUSED) for one in said)
+        own = [text for name, text in self.sayings.items() if is_of(name, function)]
+        return self.is_reached and function in map(holder, self.sayings) and all(s.startswith(UNREFUSED) for s in own)
 
     def refusal(self, wanted: frozenset[str]) -> Refusal | None:
         """Where one of some functions was refused, or of all if none is named: at the goal that says most."""
-        among = wanted or frozenset(map(holder, self.told))
+        among = wanted or frozenset(map(holder, self.sayings))
         refused = {one for one in among
-                   if any(is_of(name, one) and text.startswith(REFUSED) for name, text in self.told.items())}
+                   if any(is_of(name, one) and text.startswith(REFUSED) for name, text in self.sayings.items())}
         found = [said for name, said in self.open if any(is_of(name, one) for one in refused)]
         return min(found, key=lambda said: said.rank) if self.is_reached and found else None
 
@@ -206,7 +213,7 @@ class Verdict:
 def read(output: str, known: list[functions.Function], changed: set[str]) -> Verdict:
     """What the lines of a check say of a crate whose functions are known, and of whose files some are changed."""
     lines = GOES_ON.sub(" ", output.rstrip("\n")).split("\n")
-    told: dict[str, str] = {}
+    sayings: dict[str, str] = {}
     found: list[tuple[str, Refusal]] = []
     by_lemmas = are_lemmas_refused(lines)
     for line in lines:
@@ -219,11 +226,11 @@ def read(output: str, known: list[functions.Function], changed: set[str]) -> Ver
         if lined and said:
             found += [(name, said) for name in at_line(lined["path"], int(lined["line"]), known)]
         if function:
-            told[function["name"]] = function["said"]
+            sayings[function["name"]] = function["said"]
             sought = SOUGHT.search(function["said"])
             goals = re.findall(r"`([^`]+)`", sought["goals"]) if sought else []
             lined_goals = {said.goal for name, said in found if is_of(function["name"], name)}
             found += [(function["name"], Refusal(kind_of(goal), goal)) for goal in goals if goal not in lined_goals]
     unread = next((line for line in lines if is_unread(line, changed) or STALE.search(line)), "")
     first = unread or next((line for line in lines if "error: " in line or "error[" in line), lines[-1])
-    return Verdict(bool(REACHED.match(lines[-1])) and not unread, told, found, first)
+    return Verdict(bool(REACHED.match(lines[-1])) and not unread, sayings, found, first)

@@ -98,7 +98,7 @@ class Item(NamedTuple):
     does: str
     value: str
 
-    def told(self) -> str:
+    def shown(self) -> str:
         """The name as the page has it, with the value if there is one."""
         name = f"**`{self.name}`**" if self.is_public else f"`{self.name}`"
         return f"{name} = {self.value}" if self.value else name
@@ -147,9 +147,9 @@ def part(path: pathlib.Path, top: pathlib.Path) -> list[str]:
     said = sentence(source)
     if not said:
         raise SystemExit(f"rooms: {path} has no sentence at its head")
-    all_told = items(source)
-    lines = [f"- {one.told()}: {one.does}" for one in all_told if one.does]
-    rest = [one.told() for one in all_told if not one.does]
+    all_items = items(source)
+    lines = [f"- {one.shown()}: {one.does}" for one in all_items if one.does]
+    rest = [one.shown() for one in all_items if not one.does]
     return [f"### {path.relative_to(top).as_posix()}", "", said, *([""] if lines else []), *lines,
             *(["", f"Also {', '.join(rest)}."] if rest else []), ""]
 

@@ -173,8 +173,8 @@ class Prover:
     another of the same sources."""
 
     def __init__(self, top: pathlib.Path, over: pathlib.Path) -> None:
-        told = subprocess.run(["rt", "doc"], stdout=subprocess.PIPE, check=True, text=True).stdout
-        self.kit = pathlib.Path(told.strip()).parent
+        page = subprocess.run(["rt", "doc"], stdout=subprocess.PIPE, check=True, text=True).stdout
+        self.kit = pathlib.Path(page.strip()).parent
         self.top, self.over = top, over
         self.named: dict[str, list[str]] = {}
         self.kinds: dict[str, list[str]] = {}
@@ -289,7 +289,7 @@ class Trial:
                     self.outcomes[one.edit] = Outcome(True, UNREFUSED)
                 elif said and len(group) == 1:
                     self.outcomes[one.edit] = Outcome(False, f"refused: {said.kind}", said.goal)
-            elif said and said.is_meant:
+            elif said and counts(one.edit, said):
                 self.outcomes[one.edit] = Outcome(True, said.kind_in(one.edit.made(self.sources.texts)), said.goal)
 
     def check_unedited(self, kept: str) -> None:
@@ -311,7 +311,8 @@ class Trial:
         if said and one.edit.beside:
             self.outcomes[one.edit] = Outcome(False, f"refused: {said.kind}", said.goal)
         elif said:
-            self.outcomes[one.edit] = Outcome(said.is_meant, said.kind_in(one.edit.made(self.sources.texts)), said.goal)
+            kind = said.kind_in(one.edit.made(self.sources.texts))
+            self.outcomes[one.edit] = Outcome(counts(one.edit, said), kind, said.goal)
         elif output.rstrip("\n").split("\n")[-1].startswith("logic=proved"):
             self.outcomes[one.edit] = Outcome(bool(one.edit.beside), UNREFUSED)
         else:
@@ -334,6 +335,11 @@ class Trial:
                 self.check_unedited(kept)
         for one in self.left():
             self.check_whole(one)
+
+
+def counts(edit: Edit, said: refusals.Refusal) -> bool:
+    """Whether a wrong body was refused for what it does wrong: one whose operation may go wrong, at that too."""
+    return said.is_meant or edit.is_unsafe and said.is_of_operation
 
 
 def paths(edited: list[Candidate]) -> set[str]:
@@ -376,15 +382,17 @@ def refuse(given: list[Edit], prover: Prover, is_proved: bool) -> int:
         sys.exit(
             f"nothing in {prover.over} was proved of these sources of {names}: run .ci/run, or name a tree by --over")
     outcomes = try_all(prover, given, checks_at_once(), is_proved)
-    lines, failed = told(given, outcomes)
+    lines, failed = report(given, outcomes)
     print("\n".join([*lines, f"{len(given) - failed} passed, {failed} failed"]))
     return 1 if failed else 0
 
 
 def lack_of(edit: Edit, outcomes: dict[Edit, Outcome]) -> str:
-    """What a wrong body lacks that was asked for and is refused, as a control beside one that fell at a written proof;
-    nothing where it has all."""
+    """What a wrong body lacks that was asked for and is refused, as a control beside one that fell at a written proof,
+    or one that fell at an operation; nothing where it has all."""
     manner = refusals.manner_of(outcomes[edit].kind)
+    if edit.is_unsafe and outcomes[edit].kind.startswith(refusals.OPERATION_KIND) and manner != refusals.AT_FALSE:
+        return "" if has_beside(edit, outcomes, CONTROL) else "it falls at an operation, and lacks a control"
     if not edit.is_asked or not outcomes[edit].is_right or manner in (refusals.AT_FALSE, refusals.AT_OPEN):
         return ""
     if has_beside(edit, outcomes, REFUTATION):
@@ -400,7 +408,7 @@ def has_beside(edit: Edit, outcomes: dict[Edit, Outcome], kind: str) -> bool:
                for one, found in outcomes.items())
 
 
-def told(given: list[Edit], outcomes: dict[Edit, Outcome]) -> tuple[list[str], int]:
+def report(given: list[Edit], outcomes: dict[Edit, Outcome]) -> tuple[list[str], int]:
     """What to report of edits, line by line: each, how many fell at which kind of goal, and what stands beside; and how
     many count for nothing.
     """

@@ -13,8 +13,11 @@ processor at a time.
 from __future__ import annotations
 
 import argparse
+import contextlib
 import csv
+import os
 import pathlib
+import pwd
 import subprocess
 import sys
 import tempfile
@@ -27,6 +30,7 @@ from overlayd_lab.counting import Words
 from overlayd_lab.processor_time import processor
 
 PYTHON = "/usr/bin/python3"
+POSTGRES = pathlib.Path("/usr/lib/postgresql/15/bin")
 Table = dict[tuple[str, str], float]
 
 
@@ -123,11 +127,30 @@ SELECT parcel, zone, ST_Area(ST_Intersection(p.geom, z.geom)) FROM p JOIN z ON S
 """
 
 
+@contextlib.contextmanager
+def postgres() -> Iterator[str]:
+    """The folder of a server of its own. It does not run as root, so that it is the system's user for it then."""
+    user = "postgres" if os.geteuid() == 0 else None
+    with tempfile.TemporaryDirectory(prefix="peers") as place:
+        if user:
+            os.chown(place, pwd.getpwnam(user).pw_uid, -1)
+        quiet: dict[str, Any] = {"stdout": subprocess.DEVNULL, "stderr": subprocess.DEVNULL, "user": user, "cwd": place}
+        subprocess.run([POSTGRES / "initdb", "-U", "postgres", "-D", f"{place}/data"], check=True, **quiet)
+        words: list[str | pathlib.Path] = [POSTGRES / "postgres", "-D", f"{place}/data", "-k", place, "-c",
+                                           "listen_addresses="]
+        with subprocess.Popen(words, **quiet) as server:
+            try:
+                while not pathlib.Path(f"{place}/.s.PGSQL.5432").exists() and server.poll() is None:
+                    time.sleep(0.1)
+                time.sleep(1)
+                yield place
+            finally:
+                server.terminate()
+
+
 def postgis(folder: pathlib.Path, table: pathlib.Path) -> Run:
     """One backend of PostGIS; loading and its indexes are not counted."""
-    from overlayd_lab.measures import live
-
-    with live.postgres() as place:
+    with postgres() as place:
         asking = ["psql", "-X", "-At", "-q", "-h", place, "-U", "postgres"]
         subprocess.run([*asking, "-c", "CREATE EXTENSION postgis"], check=True, capture_output=True)
         for kind in ("parcels", "zones"):

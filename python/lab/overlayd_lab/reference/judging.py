@@ -206,9 +206,9 @@ class History:
         place = bisect.bisect_right(touched, version)
         start = touched[place - 1]
         end = touched[place] if place < len(touched) else len(self.versions)
-        told = self.told_built[name]
-        first = bisect.bisect_left(told, start)
-        return told[first] if first < len(told) and told[first] < end else None
+        numbers = self.told_built[name]
+        first = bisect.bisect_left(numbers, start)
+        return numbers[first] if first < len(numbers) and numbers[first] < end else None
 
     def runs_between(self, name: str, low: int, high: int) -> Iterator[int]:
         """The first versions of each run in which no tile of a layer is touched."""
@@ -358,14 +358,11 @@ class Judged:
         self.history = history
         self.histories: list[History] = []  # all by which the replies are right, where sessions were cut off
         self.replies: collections.Counter[str] = collections.Counter()
-        self.unjudged: collections.Counter[str] = collections.Counter()
         # The replies that can't be judged: session, place and number of the refusal.
         self.outside: list[tuple[Session, int, int]] = []
         self.sessions: list[Session] = []
         self.wrong: list[str] = []
-        self.seen: list[int] = []
         self.durable = 0
-        self.turns = 0  # how often the next accepted command is of another session
 
 
 def accepted_of(asked: list[list[Request]], replies: list[list[Reply]]) -> dict[int, Request]:
@@ -391,15 +388,6 @@ def history_of(accepted: dict[int, Request], meanings: Any) -> History:
             raise Wrong(f"no command has the number {number}, and {len(accepted)} were accepted")
         history.add(accepted[number])
     return history
-
-
-def turns_of(replies: list[list[Reply]]) -> int:
-    """How often the accepted commands go on with another session."""
-    owners: dict[int, int] = {}
-    for session, answers in enumerate(replies):
-        owners.update((number_of(reply), session) for reply in answers if reply[0].startswith("ok "))
-    order = [owners[number] for number in sorted(owners)]
-    return sum(before != after for before, after in zip(order, order[1:]))
 
 
 def cut_off(asked: list[list[Request]], replies: list[list[Reply]]) -> list[Request]:
@@ -459,7 +447,6 @@ def judged_by(history: History, asked: list[list[Request]], replies: list[list[R
               has_store: bool) -> Judged:
     """What comes of judging all sessions by a history."""
     judged = Judged(history)
-    judged.turns = turns_of(replies)
     take_down_built(history, asked, replies)
     for place, (requests, answers) in enumerate(zip(asked, replies)):
         session = Session(history, requests, answers, len(before), has_store)
@@ -474,8 +461,8 @@ def take_down_built(history: History, asked: list[list[Request]], replies: list[
         for request, reply in zip(requests, answers):
             if reply[0].startswith("built ") and isinstance(request, model.Question):
                 history.told_built[request.name].append(number_of(reply))
-    for told in history.told_built.values():
-        told.sort()
+    for numbers in history.told_built.values():
+        numbers.sort()
 
 
 def judge_session(session: Session, number: int, judged: Judged) -> None:
@@ -488,12 +475,10 @@ def judge_session(session: Session, number: int, judged: Judged) -> None:
             judged.durable = max(judged.durable, number_of(reply))
         try:
             if not session.judge(place) and code is not None:
-                judged.unjudged[kind] += 1
                 judged.outside.append((session, place, code))
         except Wrong as fault:
             asked = request.line() if isinstance(request, REFUSALS) else request
             judged.wrong.append(f"script {number}, reply {place + 1}: {reply[:3]}: {fault}; asked {str(asked)[:200]}")
-    judged.seen.append(session.seen)
 
 
 def main() -> int:

@@ -10,6 +10,7 @@ column. Of a file with a fault it prints the first one, `32` or `33 CODE`, and e
 from __future__ import annotations
 
 import fractions
+import functools
 import pathlib
 import re
 import sys
@@ -372,12 +373,33 @@ def reading(data: bytes) -> list[str]:
     return lines
 
 
-def told(data: bytes) -> list[str]:
+def summary(data: bytes) -> list[str]:
     """The lines that are printed of a file, faults too."""
     try:
         return reading(data)
     except Damage as fault:
         return [str(fault)]
+
+
+@functools.lru_cache(maxsize=10000)
+def tile_ends(record: bytes, column: int) -> list[tuple[Point, Point]] | None:
+    """The ends of the pieces of a tile's record, None where it is oversize."""
+    if read_tile(record, column) == "oversize":
+        return None
+    rest = Bytes(record)
+    rest.take(2)
+    return [read_piece(rest) for _ in range(rest.number(4))]
+
+
+def tiles_in(data: bytes) -> dict[tuple[str, int], list[tuple[Point, Point]] | None]:
+    """The finished tiles of a store, by layer and column."""
+    root = find_root(data)
+    tiles: dict[tuple[str, int], list[tuple[Point, Point]] | None] = {}
+    for listed in read_catalog(record_at(data, root.catalog, 3), root.format):
+        for column, extent in enumerate(listed.tiles or []):
+            if extent is not None:
+                tiles[listed.name.decode(), column] = tile_ends(record_at(data, extent, 5), column)
+    return tiles
 
 
 # ---- the vectors of docs/FORMAT.md
@@ -428,7 +450,7 @@ def main() -> int:
     parser = Words(__doc__)
     parser.add_argument("file", type=pathlib.Path)
     words = parser.parse_args()
-    lines = told(words.file.read_bytes())
+    lines = summary(words.file.read_bytes())
     print("\n".join(lines))
     return 0 if lines[0].startswith("version") else 1
 

@@ -29,7 +29,7 @@ SPOILED = ["lists", "books", "sessions", "servers"]
 def are_told(line: str) -> bool:
     """Whether there are wrong lists, books, sessions and servers, and each is reported as wrong."""
     words = line.split()[1:]
-    return words[::3] == SPOILED and all(cases == told != "0" for cases, told in zip(words[1::3], words[2::3]))
+    return words[::3] == SPOILED and all(cases == count != "0" for cases, count in zip(words[1::3], words[2::3]))
 
 
 def main() -> int:

@@ -21,7 +21,7 @@ from collections.abc import Callable, Sequence
 from overlayd_lab import unproved
 from overlayd_lab.counting import Words
 from overlayd_lab.reference import model, read_store
-from overlayd_lab.trials import old_files, stress
+from overlayd_lab.trials import old_files
 
 HERE = pathlib.Path(__file__).resolve().parent
 STORES = {
@@ -57,13 +57,13 @@ def apply(data: bytes, length: int, changes: Changes) -> bytes:
 
 def read_by_itself(data: bytes) -> tuple[str, str | None]:
     """The answer of the reader that stands by itself: `32`, `33 CODE` or `version N`, and what the version has."""
-    answer, *lines = read_store.told(data)
+    answer, *lines = read_store.summary(data)
     if not answer.startswith("version"):
         return answer, None
     layers = [line[len("layer ") :] for line in lines if line.startswith("layer ")]
     names = [line.split()[0] for line in layers]
     content = [f"layers {len(layers)}", *layers]
-    for (name, column), pieces in stress.tiles_in(data).items():
+    for (name, column), pieces in read_store.tiles_in(data).items():
         content.append(f"tile {column} of layer {names.index(name)}")
         content += ["oversize"] if pieces is None else model.edge_lines(pieces)
     return answer, "".join(line + ";" for line in content)
@@ -84,9 +84,9 @@ def answers(program: pathlib.Path, folder: pathlib.Path, data: bytes, cases: lis
         for length, changes in cases:
             print(length, *(number for change in changes for number in change), file=lines)
     done = subprocess.run([program, folder / "store", folder / "cases"], stdout=subprocess.PIPE, check=True, text=True)
-    told = done.stdout.splitlines()
-    assert len(told) == len(cases)
-    return told
+    replies = done.stdout.splitlines()
+    assert len(replies) == len(cases)
+    return replies
 
 
 def cuts(program: pathlib.Path, folder: pathlib.Path, name: str, one: bytes) -> int:
@@ -95,9 +95,9 @@ def cuts(program: pathlib.Path, folder: pathlib.Path, name: str, one: bytes) -> 
     counts: collections.Counter[str] = collections.Counter()
     wrong = 0
     for (length, _), answer in zip(cases, answers(program, folder, one, cases)):
-        told, _ = plain(answer)
-        counts[told[0]] += 1
-        if told[0] != ("32" if length < 2 * BLOCK else "33 3") or told != read_by_itself(one[:length]):
+        meaning, _ = plain(answer)
+        counts[meaning[0]] += 1
+        if meaning[0] != ("32" if length < 2 * BLOCK else "33 3") or meaning != read_by_itself(one[:length]):
             print(f"    cut to {length}: {answer}")
             wrong += 1
     print(f"{name} cut to every length below {len(one)}: {shown(counts)}, wrong {wrong}")
@@ -125,9 +125,9 @@ def each_byte(
     counts: collections.Counter[str] = collections.Counter()
     tiles, wrong = [0, 0, 0], 0
     for (_, changes), answer in zip(cases, answers(program, folder, data, cases)):
-        told, verified = plain(answer)
-        is_right = told == read_by_itself(apply(data, len(data), changes))
-        counts["a version" if verified else told[0]] += 1
+        meaning, verified = plain(answer)
+        is_right = meaning == read_by_itself(apply(data, len(data), changes))
+        counts["a version" if verified else meaning[0]] += 1
         tiles = [one + other for one, other in zip(tiles, verified or [0, 0, 0])]
         if not is_right or verified and verified[2]:
             print(f"    {changes}: {answer}, by itself {read_by_itself(apply(data, len(data), changes))}")
@@ -179,10 +179,10 @@ def lists(words: list[pathlib.Path], files: dict[str, bytes], of: str = "") -> i
 
 def are_left(name: str, old: bytes, files: dict[str, bytes]) -> int:
     """Whether what opening a file of format 1 leaves, and what commits over it, is what it has to be."""
-    number, layers = int(read_store.told(old)[0].split()[1]), read_store.told(old)[1:]
+    number, layers = int(read_store.summary(old)[0].split()[1]), read_store.summary(old)[1:]
     wrong = 0
     for which, (written, more) in LEFT.items():
-        found, root = read_store.told(files[which]), read_store.find_root(files[which])
+        found, root = read_store.summary(files[which]), read_store.find_root(files[which])
         layer, tile = ["layer Z MULTIPOLYGON (((0 0, 10 0, 10 10, 0 10, 0 0)))"] * more, ["tile I 16 4"] * more
         if (root.format, found) != (written, [f"version {number + more}", *layers, *layer, *tile]):
             print(f"    {name}, {which}: format {root.format}, {found}")

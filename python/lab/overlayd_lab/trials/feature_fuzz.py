@@ -122,7 +122,7 @@ def forms(flags: int) -> list[tuple[int, int]]:
     return [*((flags, limit) for limit in LIMITS), (flags & 1, LIMITS[0])]
 
 
-def try_pairs(program: str, draw: random.Random, count: int, flags: int, told: Counter[str]) -> None:
+def try_pairs(program: str, draw: random.Random, count: int, flags: int, counts: Counter[str]) -> None:
     """Pairs: each at all limits."""
     drawn = [far_pair(draw) for _ in range(count)]
     features = [one for both in drawn for one in both]
@@ -136,14 +136,14 @@ def try_pairs(program: str, draw: random.Random, count: int, flags: int, told: C
             faults.append("doubles")
         if not rows[0].fault and not same(rows, (2, 3, 4, 8)):
             faults.append("halves differ")
-        tell(told, "pairs", faults, (a, b))
+        tell(counts, "pairs", faults, (a, b))
 
 
-def tell(told: Counter[str], name: str, faults: list[str], what: object) -> None:
+def tell(counts: Counter[str], name: str, faults: list[str], what: object) -> None:
     """Counts a job, and says what is wrong with it."""
-    told[name] += 1
-    told["failed"] += bool(faults)
-    if faults and told["failed"] < 10:
+    counts[name] += 1
+    counts["failed"] += bool(faults)
+    if faults and counts["failed"] < 10:
         print(name, faults, what)
 
 
@@ -167,7 +167,7 @@ def core_of(draw: random.Random, four: list[Feature]) -> tuple[int, int, int, in
     return x[0], x[1], y[0], y[1]
 
 
-def try_cells(program: str, draw: random.Random, count: int, flags: int, told: Counter[str]) -> None:
+def try_cells(program: str, draw: random.Random, count: int, flags: int, counts: Counter[str]) -> None:
     """Expressions over four features: each at all limits."""
     for text, rule in TEXTS:
         drawn = []
@@ -188,7 +188,7 @@ def try_cells(program: str, draw: random.Random, count: int, flags: int, told: C
                 faults.append("doubles")
             if not rows[0].fault and not same(rows, (0, 1, 2, 4)):
                 faults.append("halves differ")
-            tell(told, "cells", faults, (text, cores[k], four))
+            tell(counts, "cells", faults, (text, cores[k], four))
 
 
 def cells_faults(row: blocks.Row, area: Fraction, flags: int) -> list[str]:
@@ -212,7 +212,7 @@ def point_near(draw: random.Random, one: Feature) -> tuple[int, int, int]:
     return (x, y, w) if draw.random() < 0.5 else (x + draw.randint(-w, w), y + draw.randint(-w, w), w)
 
 
-def try_points(program: str, draw: random.Random, count: int, _flags: int, told: Counter[str]) -> None:
+def try_points(program: str, draw: random.Random, count: int, _flags: int, counts: Counter[str]) -> None:
     """Points against features."""
     drawn = [far_pair(draw)[0] for _ in range(count // 8)]
     points = [[point_near(draw, one) for _ in range(8)] for one in drawn]
@@ -221,7 +221,7 @@ def try_points(program: str, draw: random.Random, count: int, _flags: int, told:
     for one, own in zip(drawn, points):
         for x, y, w in own:
             want, got = judge.locate(one, Fraction(x, w), Fraction(y, w)), next(rows).numbers[0]
-            tell(told, "points", [] if want == got else [f"{got}, not {want}"], (one, x, y, w))
+            tell(counts, "points", [] if want == got else [f"{got}, not {want}"], (one, x, y, w))
 
 
 def main() -> None:
@@ -231,12 +231,12 @@ def main() -> None:
     parser.add_argument("--jobs", type=int, default=1000)
     parser.add_argument("--outlines", action="store_true")
     asked = parser.parse_args()
-    draw, told = random.Random(asked.seed), Counter[str]()
+    draw, counts = random.Random(asked.seed), Counter[str]()
     for attempt in (try_pairs, try_cells, try_points):
-        attempt(asked.program, draw, asked.jobs, 3 if asked.outlines else 0, told)
-    failed = told.pop("failed", 0)
-    print(", ".join(f"{count} {name}" for name, count in told.items()))
-    print(f"{sum(told.values()) - failed} passed, {failed} failed")
+        attempt(asked.program, draw, asked.jobs, 3 if asked.outlines else 0, counts)
+    failed = counts.pop("failed", 0)
+    print(", ".join(f"{count} {name}" for name, count in counts.items()))
+    print(f"{sum(counts.values()) - failed} passed, {failed} failed")
     sys.exit(1 if failed else 0)
 
 

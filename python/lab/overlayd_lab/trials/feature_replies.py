@@ -100,8 +100,8 @@ def main() -> int:
     for block, line in REFUSED:
         given += b"".join(one for one, _ in ANSWERED) + block
         wanted += [one for _, lines in ANSWERED for one in lines] + [line]
-    status, told, fault = run(program, ["--text", "--memory", str(MEMORY)], given)
-    lines = told.splitlines()
+    status, output, fault = run(program, ["--text", "--memory", str(MEMORY)], given)
+    lines = output.splitlines()
     failed = sum(a != b for a, b in zip(lines, wanted)) + abs(len(lines) - len(wanted)) + ((status, fault) != (0, ""))
     refused = [["--texts"], ["--memory"], ["--memory", "many"], ["--memory", "1" * 16]]
     failed += sum(run(program, words, b"") != (2, "", "error 50 words\n") for words in refused)

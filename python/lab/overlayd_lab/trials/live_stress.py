@@ -29,7 +29,7 @@ from overlayd.grid.limits import COLUMNS
 from overlayd.program import lines_after
 from overlayd_lab.counting import Kept, Words, counted
 from overlayd_lab.reference import judging, model, read_store
-from overlayd_lab.trials import stress
+from overlayd_lab.trials import drawn_lines
 
 SESSIONS = 4
 PATIENCE = 60
@@ -42,7 +42,7 @@ Reply = list[str]
 # ---- lines
 
 
-class LiveScript(stress.Script):
+class LiveScript(drawn_lines.Script):
     """Draws the lines of one session, those of a batch together."""
 
     def batch(self) -> list[str]:
@@ -63,9 +63,9 @@ class LiveScript(stress.Script):
 def scripts_of(seed: int) -> list[LiveScript]:
     """What draws the lines of each session."""
     draw = random.Random(seed)
-    texts = [stress.text(draw) for _ in range(80)]
+    texts = [drawn_lines.text(draw) for _ in range(80)]
     points = [(draw.randrange(-65, 66), draw.randrange(-65, 66), draw.choice([1, 2, 3])) for _ in range(150)]
-    points += [(x + step, 0, 1) for x in stress.FAR[1:-1] for step in (-1, 0, 1)]
+    points += [(x + step, 0, 1) for x in drawn_lines.FAR[1:-1] for step in (-1, 0, 1)]
     return [LiveScript(random.Random(f"{seed} {session}"), texts, points) for session in range(SESSIONS)]
 
 
@@ -79,7 +79,7 @@ class Asked(NamedTuple):
     sent: int
 
 
-class Told(NamedTuple):
+class Answer(NamedTuple):
     """A request with its reply, and the clock when that was read."""
 
     request: Any
@@ -93,23 +93,23 @@ class Lane:
     def __init__(self, history: judging.History) -> None:
         self.session = judging.Session(history, [], [], history.last(), True)
         self.asked: collections.deque[Asked] = collections.deque()
-        self.told: collections.deque[Told] = collections.deque()
+        self.answers: collections.deque[Answer] = collections.deque()
 
     def waiting(self) -> int:
-        return len(self.asked) + len(self.told)
+        return len(self.asked) + len(self.answers)
 
     def last_accepted(self) -> int:
         """The least that the session's next command has to be above."""
-        numbers = [judging.number_of(one.reply) for one in self.told if one.reply[0].startswith("ok ")]
+        numbers = [judging.number_of(one.reply) for one in self.answers if one.reply[0].startswith("ok ")]
         return max([self.session.seen, *numbers])
 
     def kept(self) -> tuple[Any, ...]:
         """All that judging changes."""
-        return list(self.asked), list(self.told), self.session.seen, dict(self.session.built)
+        return list(self.asked), list(self.answers), self.session.seen, dict(self.session.built)
 
     def restore(self, kept: tuple[Any, ...]) -> None:
-        asked, told, self.session.seen, self.session.built = kept
-        self.asked, self.told = collections.deque(asked), collections.deque(told)
+        asked, answers, self.session.seen, self.session.built = kept
+        self.asked, self.answers = collections.deque(asked), collections.deque(answers)
 
     def has_asked_before(self, clock: int) -> bool:
         """Whether a command that was sent before some time has no reply yet."""
@@ -148,7 +148,7 @@ class Judge:
             bisect.insort(self.history.told_built[asked.request.name], judging.number_of(reply))
         if reply[0].startswith("durable "):
             self.durable = max(self.durable, judging.number_of(reply))
-        lane.told.append(Told(asked.request, reply, self.clock))
+        lane.answers.append(Answer(asked.request, reply, self.clock))
 
     def accept(self, number: int, asked: Asked) -> None:
         """Takes a command to its place in the history, as far as that goes without a gap."""
@@ -168,7 +168,7 @@ class Judge:
         """Judges replies that can be judged by now, so many of each session. How many they were."""
         count = 0
         for place, lane in enumerate(self.lanes):
-            for _ in range(min(most, len(lane.told))):
+            for _ in range(min(most, len(lane.answers))):
                 if not self.judge_first(place, lane):
                     break
                 count += 1
@@ -176,7 +176,7 @@ class Judge:
 
     def judge_first(self, place: int, lane: Lane) -> bool:
         """Judges a session's first reply of those that wait; False where it has to wait for another reply."""
-        request, reply, read = lane.told[0]
+        request, reply, read = lane.answers[0]
         high = bisect.bisect_left(self.sent, read) - 1
         is_open = any(other is not lane and other.has_asked_before(read) for other in self.lanes)
         try:
@@ -189,7 +189,7 @@ class Judge:
             raise judging.Wrong(
                 f"session {place + 1}, {seen}: {reply[:3]}: {fault}; asked {str(asked)[:300]}"
             ) from None
-        lane.told.popleft()
+        lane.answers.popleft()
         self.replies[reply[0].split(" ")[0]] += 1
         return True
 
@@ -351,14 +351,14 @@ class Run:
         self.ask(0, [line])
         end = time.monotonic() + PATIENCE
         lane = self.judge.lanes[0]
-        while not lane.told:
+        while not lane.answers:
             if self.take(1) or time.monotonic() > end:
-                raise judging.Wrong(f"no reply to {line}: {self.told_at_end(0)}")
-        reply = lane.told[-1].reply
+                raise judging.Wrong(f"no reply to {line}: {self.at_end(0)}")
+        reply = lane.answers[-1].reply
         self.judge.judge(1)
         return reply
 
-    def told_at_end(self, patience: float = PATIENCE) -> tuple[int | None, str]:
+    def at_end(self, patience: float = PATIENCE) -> tuple[int | None, str]:
         """The status and standard error of a program that ends."""
         try:
             self.process.wait(patience)
@@ -391,7 +391,7 @@ class Run:
                 while lane.waiting() < most[place]:
                     self.ask(place, scripts[place].lines())
             before = self.judge.clock
-            self.take(0 if any(lane.told for lane in self.judge.lanes) else 0.05)
+            self.take(0 if any(lane.answers for lane in self.judge.lanes) else 0.05)
             if self.judge.judge(5) or self.judge.clock > before:
                 heard = time.monotonic()
             if time.monotonic() > heard + PATIENCE:
@@ -470,14 +470,14 @@ class Stress:
         wanted = [f"durable {number}"]
         reply = run.ask_alone("SYNC")
         if reply != wanted:
-            raise judging.Wrong(f"opened again: {reply}, not {wanted}: {run.told_at_end(0)}")
+            raise judging.Wrong(f"opened again: {reply}, not {wanted}: {run.at_end(0)}")
         layers = run.ask_alone("LAYERS")[1:]
         if layers != self.history.versions[number].lines():
             raise judging.Wrong(f"opened again: other layers than those of version {number}")
 
     def in_file(self) -> tuple[int, list[str]]:
         """Version and layers of the store, by its file."""
-        lines = read_store.told(self.store.read_bytes())
+        lines = read_store.summary(self.store.read_bytes())
         if not lines[0].startswith("version "):
             raise judging.Wrong(f"the file is refused: {lines[0]}")
         return int(lines[0].split(" ")[1]), [line[6:] for line in lines if line.startswith("layer ")]
@@ -505,9 +505,9 @@ class Stress:
     def end(self, run: Run) -> None:
         """Looks at a run that ended by itself."""
         run.judge.finish()
-        told = run.told_at_end()
-        if told != (0, ""):
-            raise judging.Wrong(f"status and standard error {told}")
+        ended = run.at_end()
+        if ended != (0, ""):
+            raise judging.Wrong(f"status and standard error {ended}")
         number, lines = self.in_file()
         if number != self.history.last() or lines != self.history.versions[number].lines():
             raise judging.Wrong(f"ended with version {self.history.last()}, and the file has {number}, or other layers")
@@ -515,10 +515,9 @@ class Stress:
 
     def tiles_in_file(self) -> None:
         """Looks at the tiles that the store's file holds."""
-        final = stress.Final(self.history)
-        final.read_store(self.store.read_bytes(), False)
-        if final.wrong:
-            raise judging.Wrong(final.wrong[0])
+        for (name, column), pieces in read_store.tiles_in(self.store.read_bytes()).items():
+            if pieces != self.history.meanings.tile(self.history.key_at(name, self.history.last()), column):
+                raise judging.Wrong(f"the store's tile {name} {column}")
 
     def asked_once_more(self) -> None:
         """Opens the store and asks for all layers at points, and for tiles of those that are waited for."""

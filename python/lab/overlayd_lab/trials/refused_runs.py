@@ -13,8 +13,7 @@ from typing import Any
 
 from overlayd_lab import unproved
 from overlayd_lab.counting import Words, absolute
-from overlayd_lab.reference import judging, model
-from overlayd_lab.trials import stress
+from overlayd_lab.reference import judging, model, read_store
 
 HERE = pathlib.Path(__file__).resolve().parent
 # The fault of a live program, with the file that it is about and the reason where the system gave one.
@@ -65,9 +64,10 @@ class Scenario:
         script = "\n".join([*self.before, "WAIT I", "SYNC"]).encode()
         words = [program, "--store", str(path), "--create"]
         subprocess.run(words, input=script, stdout=subprocess.DEVNULL, check=True, timeout=60)
-        data = stress.half_opened(path.read_bytes())
+        data = path.read_bytes()
         path.unlink()
-        return data
+        older = read_store.BLOCK * ((read_store.find_root(data).sequence + 1) % 2)
+        return data[:older] + b"\x55" + data[older + 1 :]
 
 
 MEMORY = Scenario("one script in memory", [WORDS], 1, None)

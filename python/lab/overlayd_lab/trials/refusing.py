@@ -9,14 +9,13 @@ from typing import Any
 
 from overlayd_lab.reference import judging, model, read_store
 from overlayd_lab.reference.judging import History, Judged, Session
-from overlayd_lab.trials import stress
 from overlayd_lab.trials.refused_runs import Outcome, Runner, Scenario
 
 FAULT_LINE = re.compile(r"error (\d+) [a-z #0-9]+\n")
 # Judges the refusals that a run reports, whose sessions are judged before, where any ran.
 Allows = Callable[[Outcome, "Judged | None"], None]
 # A session, the place of a line in it, and the number by which that was refused.
-Told = tuple[Any, int, int]
+Refusal = tuple[Any, int, int]
 
 
 def judge_output(scenario: Scenario, outcome: Outcome, allows: Allows) -> Judged | None:
@@ -50,23 +49,23 @@ def word_of(session: Session, place: int) -> str:
     return getattr(session.asked[place], "word", "")
 
 
-def check_memory(told: list[Told]) -> None:
+def check_memory(refusals: list[Refusal]) -> None:
     """Looks that 40 is reported of no line that takes no memory: a LOCATE, or a SYNC without a store."""
-    for session, place, code in told:
+    for session, place, code in refusals:
         word = word_of(session, place)
         if code == 40 and (word == "LOCATE" or word == "SYNC" and not session.has_store):
             raise judging.Wrong(f"40 is reported of a {word}, which takes no memory")
 
 
-def told_outside(outcome: Outcome, judged: Judged | None) -> tuple[list[Told], list[Told], int | None]:
+def refusals_of(outcome: Outcome, judged: Judged | None) -> tuple[list[Refusal], list[Refusal], int | None]:
     """The refusals that were reported: the lines that no SYNC asked, the SYNCs, and the number on standard error.
 
     Status 1 without a line says that the store has not the newest version, as `judge_store` sees.
     """
     if outcome.status == 0 and outcome.fault or not outcome.fault and is_silent(outcome) and not has_store(judged):
         raise judging.Wrong(f"status {outcome.status}, standard error {outcome.fault[:100]!r}")
-    lines: list[Told] = []
-    syncs: list[Told] = []
+    lines: list[Refusal] = []
+    syncs: list[Refusal] = []
     for session, place, code in judged.outside if judged else []:
         (syncs if word_of(session, place) == "SYNC" else lines).append((session, place, code))
     check_memory(lines + syncs)
@@ -132,10 +131,10 @@ def check_closed(session: Session, place: int) -> None:
             raise judging.Wrong(f"a command after 43 is answered by {reply[0]}")
 
 
-def but_closing(outcome: Outcome, judged: Judged | None, told: list[Told], fault: int | None) -> list[Told]:
+def but_closing(outcome: Outcome, judged: Judged | None, refusals: list[Refusal], fault: int | None) -> list[Refusal]:
     """What was reported but for 43, where that is right."""
-    others: list[Told] = []
-    for session, place, code in told:
+    others: list[Refusal] = []
+    for session, place, code in refusals:
         if code == 43 and has_closed(outcome, judged, fault) and may_tell_closing(session, place):
             check_closed(session, place)
         else:
@@ -147,8 +146,8 @@ def one_growth(outcome: Outcome, judged: Judged | None) -> None:
     """What one refused growth may do: one line is answered by 40; or the store gets it, which each SYNC says
     until the next accepted command, and status 1 where none comes; or the run ends with it.
     """
-    told, told_of_syncs, fault = told_outside(outcome, judged)
-    lines, syncs = (but_closing(outcome, judged, each, fault) for each in (told, told_of_syncs))
+    refusals, of_syncs, fault = refusals_of(outcome, judged)
+    lines, syncs = (but_closing(outcome, judged, each, fault) for each in (refusals, of_syncs))
     only({code for _, _, code in lines + syncs}, {40})
     only(set() if fault is None else {fault}, {40, 49})
     check_cut(outcome, judged, fault)
@@ -166,7 +165,7 @@ def one_growth(outcome: Outcome, judged: Judged | None) -> None:
 
 def many_growths(outcome: Outcome, judged: Judged | None) -> None:
     """What growths may do that are refused again and again: whatever is reported is 40."""
-    lines, syncs, fault = told_outside(outcome, judged)
+    lines, syncs, fault = refusals_of(outcome, judged)
     only({code for _, _, code in but_closing(outcome, judged, lines + syncs, fault)}, {40})
     only(set() if fault is None else {fault}, {40, 49})
 
@@ -176,7 +175,7 @@ def device(outcome: Outcome, judged: Judged | None) -> None:
 
     A failure that is reported nowhere shows in the store: what a failed write or sync was to bring there is lost.
     """
-    lines, syncs, fault = told_outside(outcome, judged)
+    lines, syncs, fault = refusals_of(outcome, judged)
     only({code for _, _, code in lines}, set())
     only({code for _, _, code in syncs}, {30})
     only(set() if fault is None else {fault}, {30})
@@ -238,10 +237,10 @@ def judge_content(runner: Runner, outcome: Outcome, history: History, number: in
     """Looks whether a store has the layers of a version, and right tiles, and is opened by the program."""
     assert outcome.store is not None
     right = history.versions[number].lines()
-    lines = read_store.told(outcome.store)
+    lines = read_store.summary(outcome.store)
     if layers_told(lines) != right:
         raise judging.Wrong(f"the store has other layers than those of version {number}")
-    for (name, column), pieces in stress.tiles_in(outcome.store).items():
+    for (name, column), pieces in read_store.tiles_in(outcome.store).items():
         if pieces != history.meanings.tile(history.key_at(name, number), column):
             raise judging.Wrong(f"the store's tile {name} {column} is wrong")
     if runner.reopened(outcome.store) != (right, number):
@@ -256,7 +255,7 @@ def last_accepted(judged: Judged) -> int:
 
 def judge_store(runner: Runner, outcome: Outcome, judged: Judged | None) -> None:
     """Looks at the store that a run left: a version of the history, all that was reported durable, right tiles."""
-    lines = read_store.told(outcome.store) if outcome.store is not None else ["32"]
+    lines = read_store.summary(outcome.store) if outcome.store is not None else ["32"]
     if not lines[0].startswith("version"):
         if runner.prepared is None and judged is None and lines == ["32"]:
             return

@@ -8,7 +8,7 @@ import re
 import textwrap
 
 from overlayd_lab.gate.believing.house import Call, Cut, House, Key
-from overlayd_lab.gate.believing.page import Law, Told, reached_by, sentence_of
+from overlayd_lab.gate.believing.page import Law, Reading, reached_by, sentence_of
 from overlayd_lab.gate.believing.sources import imports
 
 # Words of laws and of types that a row does not have are printed up to so many lines.
@@ -23,17 +23,17 @@ class Beside:
     keys: frozenset[Key]
 
 
-def besides(told: Told, keys: set[Key], cut: Cut) -> list[Beside]:
+def besides(reading: Reading, keys: set[Key], cut: Cut) -> list[Beside]:
     """What is proved of the definitions of a text, and what values of its types keep to."""
-    house = told.house
-    listed = set().union(*(reach.keys for reach in told.reach.values()))
+    house = reading.house
+    listed = set().union(*(reach.keys for reach in reading.reach.values()))
     kinds = sorted((key for key in keys if not key[0] and house.model(key[1], key[2])),
                    key=lambda key: (house.crates[key[1]], key[2]))
     found = [keeps_to(house, key, keys) for key in kinds]
-    for law in told.tables.laws:
+    for law in reading.tables.laws:
         reach = house.of_call(Call(law.name, law.file, law.name, ""), cut).keys
         mine = house.mine(reach)
-        is_near = law.name in told.tables.shown and mine & keys and house.lines(mine - keys) <= MOST
+        is_near = law.name in reading.tables.shown and mine & keys and house.lines(mine - keys) <= MOST
         if reached_by(house, law) & listed <= keys or is_near:
             found.append(Beside(tuple(said(law, house)), frozenset(reach)))
     return found

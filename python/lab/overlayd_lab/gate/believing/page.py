@@ -64,7 +64,7 @@ class Tables:
     shown: tuple[str, ...] = ()
 
 
-class Told:
+class Reading:
     """What the calls of the page reach."""
 
     def __init__(self, house: House, tables: Tables) -> None:
@@ -115,29 +115,31 @@ class Told:
 
 def page(house: House, tables: Tables) -> str:
     """The whole page."""
-    told = Told(house, tables)
+    reading = Reading(house, tables)
     rows: list[str] = []
     parts: list[str] = []
     met: set[Key] = set()
     listed: dict[Key, str] = {}
     for call in tables.calls:
-        _, reach = told.row(call.title)
+        _, reach = reading.row(call.title)
         fresh = reach.keys - met
         listed.update({key: call.title for key in house.mine(fresh)})
-        rows.append(f"| `{call.title}` | {told.counted(reach.keys)} | {told.needed(call.title):,} | {call.says} |")
-        parts.append(section(told, call, reach, fresh))
+        counts = f"{reading.counted(reach.keys)} | {reading.needed(call.title):,}"
+        rows.append(f"| `{call.title}` | {counts} | {call.says} |")
+        parts.append(section(reading, call, reach, fresh))
         met |= reach.keys
     for row in [*tables.together, Row(ALL, (), "")]:
-        _, reach = told.row(row.title)
-        counts = f"{told.counted(reach.keys, told.cut(row.title))} | {told.needed(row.title):,}"
+        _, reach = reading.row(row.title)
+        counts = f"{reading.counted(reach.keys, reading.cut(row.title))} | {reading.needed(row.title):,}"
         rows.append(f"| {row.title} | {counts} | {row.says} |")
     every = sum(len(module.definitions) for (crate, _), module in house.modules.items() if crate in house.crates)
     table = ["| Call | Definitions | Lines | Files | Of the kit (lines) | Lines in all | What it is |",
              f"|{'---|' * 7}", *rows]
     head = tables.head.replace("@CONTRACT@", "\n".join(f"    {line}" for line in quoted(house, tables.calls[0])))
-    head = head.replace("@LINKS@", links(told)).replace("@WITHOUT@", left_out(told)).replace("@PINS@", pinned(house))
+    for mark, said in (("@LINKS@", links(reading)), ("@WITHOUT@", left_out(reading)), ("@PINS@", pinned(house))):
+        head = head.replace(mark, said)
     tail = f"\nOf {every:,} definitions in `crates/*/specs`.\n"
-    return "\n".join([head, "", *table, tail, *promised(told, listed), *parts, types(house, met)])
+    return "\n".join([head, "", *table, tail, *promised(reading, listed), *parts, types(house, met)])
 
 
 def quoted(house: House, call: Call) -> list[str]:
@@ -151,12 +153,12 @@ def quoted(house: House, call: Call) -> list[str]:
     return [*owner, *(line[shift:] for line in lines[first:last])]
 
 
-def links(told: Told) -> str:
+def links(reading: Reading) -> str:
     """The table of link words: who gives each, who takes it."""
     lines = ["| Link word | Given by | Taken by |", "|---|---|---|"]
-    for link in told.house.links:
+    for link in reading.house.links:
         for title in (*link.given, *link.taken):
-            if link not in told.reach[title].links and link.key not in told.reach[title].keys:
+            if link not in reading.reach[title].links and link.key not in reading.reach[title].keys:
                 raise SystemExit(f"believe: {title} is said to give or take {link.title}, and does not reach it")
         path = f"../crates/{link.crate}/specs/{link.module}.antt"
         given, taken = (", ".join(f"`{title}`" for title in titles) for titles in (link.given, link.taken))
@@ -173,33 +175,33 @@ def pinned(house: House) -> str:
     return "\n".join(lines)
 
 
-def left_out(told: Told) -> str:
+def left_out(reading: Reading) -> str:
     """What rows leave out, and what those have that stand beside, row by row."""
-    rows = [(row.title, verb, parts) for row in told.tables.together
+    rows = [(row.title, verb, parts) for row in reading.tables.together
             for verb, parts in [("leaves out", row.without), ("has", row.only)] if parts]
     return "\n".join(f"- `{title}` {verb} {', '.join(f'`{one}`' for one in parts)}." for title, verb, parts in rows)
 
 
-def promised(told: Told, listed: dict[Key, str]) -> list[str]:
+def promised(reading: Reading, listed: dict[Key, str]) -> list[str]:
     """How much the words of the promises rest on, and in which sections that is listed."""
-    house = told.house
+    house = reading.house
     lines = ["The same of single words, by which a promise is said, and the sections that list what each rests on",
              "(what no call reaches is in none):", "",
              "| Word | Definitions | Lines | Files | Of the kit (lines) | What it says | Sections |", f"|{'---|' * 7}"]
-    for word in told.tables.promises:
+    for word in reading.tables.promises:
         if word.name not in house.module((word.crate, word.module)).definitions:
             raise SystemExit(f"believe: {word.crate}/specs/{word.module}.antt has no {word.name}")
         keys = house.reached({(word.crate, word.module, word.name)}).keys
         counts = collections.Counter(listed[key] for key in keys if key in listed)
         sections = ", ".join(f"`{title}` {counts[title]}" for title in dict.fromkeys(listed.values()) if counts[title])
         path = f"{word.crate}/specs/{word.module}.antt"
-        lines.append(f"| [`{word.name}`](../crates/{path}) | {told.counted(keys)} | {word.says} | {sections} |")
+        lines.append(f"| [`{word.name}`](../crates/{path}) | {reading.counted(keys)} | {word.says} | {sections} |")
     return [*lines, ""]
 
 
-def section(told: Told, call: Call, reach: Reach, fresh: set[Key]) -> str:
+def section(reading: Reading, call: Call, reach: Reach, fresh: set[Key]) -> str:
     """What a call rests on, but for what stands above: definitions, link words, words of the kit, types; and laws."""
-    house = told.house
+    house = reading.house
     mine, new = house.mine(reach.keys), house.mine(fresh)
     lines = [f"## `{call.title}`", "", f"{call.says} The contract: `crates/{call.file}`."]
     if len(new) < len(mine):
@@ -217,7 +219,7 @@ def section(told: Told, call: Call, reach: Reach, fresh: set[Key]) -> str:
             said = [name if head == "Of the kit" else f"`{name}`" for name in names]
             lines += ["",
                       f"{head}: {(';' if head == 'Of the kit' else ',').join(f' {name}' for name in said).strip()}."]
-    return "\n".join([*lines, *laws(told, call, new), ""])
+    return "\n".join([*lines, *laws(reading, call, new), ""])
 
 
 def of_kit(house: House, keys: set[Key]) -> list[str]:
@@ -241,13 +243,13 @@ def reached_by(house: House, law: Law) -> set[Key]:
     return house.mine(house.of_call(Call(law.name, law.file, law.name, "")).keys)
 
 
-def laws(told: Told, call: Call, fresh: set[Key]) -> list[str]:
+def laws(reading: Reading, call: Call, fresh: set[Key]) -> list[str]:
     """What is proved of the definitions that a section lists."""
-    mine = [law for law in told.tables.laws if law.section == call.title]
+    mine = [law for law in reading.tables.laws if law.section == call.title]
     for law in mine:
-        if not reached_by(told.house, law) & fresh:
+        if not reached_by(reading.house, law) & fresh:
             raise SystemExit(f"believe: {law.name} speaks of nothing that the section {call.title} lists")
-    lines = [f"- [`{law.name}`](../crates/{law.file}): {sentence_of(told.house, law)}" for law in mine]
+    lines = [f"- [`{law.name}`](../crates/{law.file}): {sentence_of(reading.house, law)}" for law in mine]
     return ["", "What is proved of these:", "", *lines] if lines else []
 
 

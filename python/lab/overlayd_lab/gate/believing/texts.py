@@ -9,7 +9,7 @@ import textwrap
 from overlayd_lab.gate.believing import rust
 from overlayd_lab.gate.believing.beside import Beside, besides
 from overlayd_lab.gate.believing.house import Cut, File, House, Key
-from overlayd_lab.gate.believing.page import Told, quoted
+from overlayd_lab.gate.believing.page import Reading, quoted
 
 FIRM = "\u00a0"  # a space at which no line ends
 # Every table of faults has these two.
@@ -21,13 +21,13 @@ def file_of(title: str) -> str:
     return f"{'-'.join(re.findall(r'[a-z]+', title.lower()))}.txt"
 
 
-def text(told: Told, title: str) -> str:
+def text(reading: Reading, title: str) -> str:
     """The text of a row, to print: contracts, definitions lowest first, link words, words of the kit, and types."""
-    house = told.house
-    calls, reach = told.row(title)
-    cut = told.cut(title)
-    body = Body(told, title)
-    lines = [*head(told, title, body), *(line for call in calls for line in [
+    house = reading.house
+    calls, reach = reading.row(title)
+    cut = reading.cut(title)
+    body = Body(reading, title)
+    lines = [*head(reading, title, body), *(line for call in calls for line in [
         f"==== {call.title}: {call.says}", f"     crates/{call.file}", "",
         *marked(quoted(house, call), call.title, cut), ""])]
     lines += body.lines()
@@ -36,13 +36,13 @@ def text(told: Told, title: str) -> str:
     return "\n".join([*lines, *index(lines, body.keys)])
 
 
-def head(told: Told, title: str, body: Body) -> list[str]:
+def head(reading: Reading, title: str, body: Body) -> list[str]:
     """The first lines of a text: how it is read, what is left out, and which names have two meanings."""
-    house = told.house
-    row, reach = told.row_of(title), told.row(title)[1]
+    house = reading.house
+    row, reach = reading.row_of(title), reading.row(title)[1]
     mine, kit = house.mine(reach.keys), house.of_kit(reach.keys)
-    count = (f"({len(mine)} definitions, {house.lines(mine, told.cut(title)):,} lines), over {len(kit)} of the kit "
-             f"({house.lines(kit):,} lines); {told.needed(title):,} lines with contracts, types and these")
+    count = (f"({len(mine)} definitions, {house.lines(mine, reading.cut(title)):,} lines), over {len(kit)} of the kit "
+             f"({house.lines(kit):,} lines); {reading.needed(title):,} lines with contracts, types and these")
     lines = [f"What to believe of: {title} {count}", "",
              "`.ci/believe --text` wrote this from the sources. docs/BELIEVE.md says how to read it. First the",
              "contracts, then the definitions on which they rest, lowest first: each comes after those that it rests",
@@ -77,12 +77,12 @@ class Body:
     of which it speaks.
     """
 
-    def __init__(self, told: Told, title: str) -> None:
-        calls, reach = told.row(title)
-        self.house = told.house
-        self.cut = told.cut(title)
+    def __init__(self, reading: Reading, title: str) -> None:
+        calls, reach = reading.row(title)
+        self.house = reading.house
+        self.cut = reading.cut(title)
         self.mine = self.house.mine(reach.keys)
-        self.waiting = besides(told, reach.keys, self.cut)
+        self.waiting = besides(reading, reach.keys, self.cut)
         self.keys = reach.keys.union(*(one.keys for one in self.waiting))
         self.fields = self.house.fields_said(calls, self.keys, self.cut)
         self.kinds = self.house.plain_types(self.keys)
