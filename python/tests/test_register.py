@@ -64,6 +64,7 @@ def test_gdal_lists_layers_and_tables_without_a_warning(tmp_path: Path) -> None:
 
     assert works.warnings_of(opened) == []
     assert names == ["parcels", "zones", "overlay_kept", "overlay_pending", "overlay_problem", "overlay_log",
+                     "overlay_rule", "overlay_violation",
                      *(one.table() for one in ALL)]
     assert own.ask("PRAGMA integrity_check") == [("ok",)] and own.ask("PRAGMA foreign_key_check") == []
 

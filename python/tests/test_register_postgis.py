@@ -9,6 +9,7 @@ import random
 import shutil
 import subprocess
 import tempfile
+import threading
 from collections.abc import Iterator
 from fractions import Fraction
 from pathlib import Path
@@ -21,14 +22,19 @@ from overlayd.kernel import Ask
 from overlayd.register.answers import Program
 from overlayd.register.auditing import audit
 from overlayd.register.filling import keep
-from overlayd.register.model import Refused
+from overlayd.register.model import Must, Refused
 from overlayd.register.postgis import PostGis
+from overlayd.register.refreshing import refresh
 from overlayd.register.registers import Register
+from overlayd.register.ruling import add_rule
+from overlayd.register.transacting import Breaks, Change, What, transact, undo
+from overlayd.register.violation_rows import listed
 from overlayd.register.watching import Watching
 
 from . import register_works as works
 from .common import OVERLAY, SECONDS, Programs
 from .register_works import ALL, Land
+from .test_register_front import client_of
 
 BINARIES = sorted(Path("/usr/lib/postgresql").glob("*/bin/initdb"))
 IS_THERE = bool(BINARIES) and importlib.util.find_spec("psycopg2") is not None and \
@@ -268,3 +274,72 @@ def test_layers_and_words_that_are_refused(words: str, tmp_path: Path) -> None:
     done = subprocess.run([*OVERLAY, "register", "status", words], capture_output=True, text=True, timeout=SECONDS,
                           check=True)
     assert "layer zones: 0 changes pending" in done.stdout
+
+
+def test_rules_hold_where_two_change_at_once(words: str, tmp_path: Path) -> None:
+    """Each looks, then writes; without a lock both would be taken."""
+    filled(words, tmp_path, 1)
+    store = connection(words)
+    store.cursor().execute("DELETE FROM parcels")
+    register = Register(PostGis(words))
+    register.begin(Fraction(works.GRID))
+    register.adopt("parcels", "nr")
+    assert Programs.features is not None
+    program = Program(Ask(Programs.features), Fraction(works.GRID))
+    rule = add_rule(register, Must.NOT_OVERLAP, "parcels", None, program)
+    told: list[object] = []
+
+    def work(number: int) -> None:
+        own, shape = Register(PostGis(words)), works.drawn(random.Random(5), 9)
+        try:
+            done = transact(own, program, [Change(What.INSERT, "parcels", None, shape, {"nr": f"n{number}"})], "anna")
+            told.append(done.number)
+        except Breaks as fault:
+            told.append(fault)
+
+    threads = [threading.Thread(target=work, args=(number,)) for number in range(3)]
+    for one in threads:
+        one.start()
+    for one in threads:
+        one.join()
+    (number,) = [one for one in told if isinstance(one, int)]
+    assert sum(isinstance(one, Breaks) for one in told) == 2
+    refresh(register, program)
+    assert listed(register.engine, " WHERE rule = ?", rule.number) == []
+    ((who, change),) = register.engine.ask("SELECT who, change FROM overlay_log WHERE what = 'insert'")
+    assert (who.startswith("anna by land/"), change) == (True, number)
+    (fid,) = [row[0] for row in register.engine.ask("SELECT fid FROM parcels")]
+    moved = transact(register, program, [Change(What.UPDATE, "parcels", fid, works.drawn(random.Random(6), 9))])
+    undo(register, program, moved.number)
+    undo(register, program, number)
+    assert register.engine.ask("SELECT count(*) FROM parcels") == [(0,)]
+
+
+def test_the_front_serves_a_register_in_postgis(words: str, tmp_path: Path) -> None:
+    """Pages, a box, a change with its digest, a refusal, undo."""
+    own = land(words, tmp_path, 3)
+    add_rule(own.register, Must.NOT_OVERLAP, "parcels", None, own.program)
+    client = client_of(words, "X-Remote-User")
+    named = {"HTTP_X_REMOTE_USER": "anna"}
+    found = {one["id"]: one for one in client.get("/collections")["collections"]}
+    assert {*found} == {"parcels", "zones", *(one.table() for one in ALL), "overlay_violation"}
+    rows = own.register.engine.ask("SELECT fid, nr FROM parcels ORDER BY fid")
+    page = client.get("/collections/parcels/items?limit=100")["features"]
+    assert [(one["id"], one["properties"]) for one in page] == [(fid, {"nr": nr}) for fid, nr in rows]
+    fid, nr = rows[0]
+    box = ",".join(map(str, own.register.engine.ask("SELECT ST_XMin(geom), ST_YMin(geom), ST_XMax(geom), ST_YMax(geom)"
+                                                    " FROM parcels WHERE fid = ?", fid)[0]))
+    path = f"/collections/parcels/items?bbox={box}&bbox-crs=http://www.opengis.net/def/crs/EPSG/0/25832"
+    assert fid in [one["id"] for one in client.get(path)["features"]]
+    item = client.ask(f"/collections/parcels/items/{fid}")
+    match = {**named, "HTTP_IF_MATCH": item.headers["ETag"]}
+    told = client.ask(f"/collections/parcels/items/{fid}", "PATCH", {"properties": {"nr": "new"}}, match)
+    assert (told.status, told.value["properties"]) == (200, {"nr": "new"})
+    assert client.ask(f"/collections/parcels/items/{fid}", "DELETE", None, match).status == 412
+    change = client.get(f"/collections/parcels/items/{fid}/history")["changes"][0]
+    assert change["who"].startswith("anna by land/")
+    assert client.ask(f"/changes/{change['change']}/undo", "POST", None, named).status == 200
+    assert client.get(f"/collections/parcels/items/{fid}")["properties"] == {"nr": nr}
+    copied = {**item.value, "properties": {"nr": "twin"}}
+    told = client.ask("/collections/parcels/items", "POST", copied, named)
+    assert told.status == 409 and fid in [one["id"] for one in told.value["broken"][0]["features"]]

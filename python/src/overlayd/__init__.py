@@ -2,10 +2,12 @@
 for GeoDataFrames: overlay, pairs, check, derive, dissolve, clip (api/).
 """
 
+from typing import Any
+
 __version__ = "1.0"
 
 
-def __getattr__(name: str) -> object:
+def __getattr__(name: str) -> Any:
     """A function for GeoDataFrames, which is loaded when it is used."""
     from .api import named
 

@@ -12,6 +12,7 @@ from . import progress
 from .ending import Unusable
 
 TOP = pathlib.Path(__file__).resolve().parents[3]
+OVERLAY = [sys.executable, str(pathlib.Path(__file__).resolve().parent / "__main__.py")]  # this command itself
 LIVE, FEATURES = "overlay_live", "overlay_features"
 BUILDER, BUILD_SECONDS = "python/lab/overlayd_lab/unproved.py", 120
 PROGRAM_HELP = ("{}, which is asked (default: that of crates/*/out of this repository, else of its top, "

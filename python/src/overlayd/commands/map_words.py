@@ -36,6 +36,7 @@ from ..words import ABOVE_ZERO, FILE, Command, Words, flag, option, program, sub
 
 NAMED_MAX = 10  # so many features are named where something is reported of them
 UNITS = {"degree": Unit.DEGREE, None: Unit.UNKNOWN}
+IN_METRES = "for square metres bring the map to a system in metres first, as by ogr2ogr -t_srs EPSG:32632"
 PROGRAM = program(FEATURES)
 
 
@@ -102,6 +103,8 @@ class Question:
         if unit := coordinate_systems.unit_of(self.system()):
             several = unit.replace("foot", "feet") if "foot" in unit else f"{unit}s"
             self.say(f"areas are in square {several}, widths in {several}")
+            if unit == "degree":
+                self.say(IN_METRES)
         return self.maps
 
     def tell_map(self, read_map: MapColumn, name_by: str | None) -> None:

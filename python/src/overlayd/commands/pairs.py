@@ -45,7 +45,7 @@ def command(question: Question) -> None:
     a, b = question.read((given["first"], given["second"]), "ab")
     found = overlay(a.column, b.column, question.ask(wanted(given)))
     question.tell_grid(found.laid)
-    rows = largest_first(found.part(np.flatnonzero(found.rows["fault"] == 0)))
+    rows = largest_first(found)
     write(question, rows, a.names, b.names)
     relations = rows.relations()
     touching = int((relations == Relation.TOUCHES).sum())
@@ -69,9 +69,10 @@ def check_out(out: pathlib.Path | None) -> None:
 
 
 def largest_first(rows: Overlay) -> Overlay:
-    """Rows by their areas, the largest first; of equal ones by the numbers of their features."""
+    """The rows that have an answer, by their areas, the largest first, equal ones by the numbers of their features."""
     both = rows.rows["both"]
-    return rows.part(np.lexsort((rows.pairs[:, 1], rows.pairs[:, 0], ~both["low"], -both["high"])))
+    order = np.lexsort((~both["low"], -both["high"]))
+    return rows.part(order[rows.rows["fault"][order] == 0])
 
 
 def write(question: Question, rows: Overlay, a: Numbers, b: Numbers) -> None:

@@ -4,10 +4,10 @@ in it tables of pairs, overlaps and derived areas that follow each edit.
 
 from __future__ import annotations
 
-import dataclasses
 import functools
 import signal
 import sqlite3
+import tempfile
 from fractions import Fraction
 from pathlib import Path
 
@@ -16,22 +16,21 @@ import click
 from ..ending import Unusable
 from ..files.gdal_writing import modules
 from ..kernel import Ask
-from ..program_files import FEATURES, found_program
-from ..register import sources, statements
+from ..program_files import FEATURES, LIVE, PROGRAM_HELP, found_program
+from ..register import sources
 from ..register.answers import Program
 from ..register.auditing import audit as audited
-from ..register.engines import Engine
+from ..register.beginning import begun, engine_of, idents_of, opened, standing
 from ..register.filling import keep as begin_to_keep
-from ..register.gridding import grid_for
-from ..register.lasting import Lasting
-from ..register.model import Kept, Kind, Refused, factor_of
-from ..register.package import GeoPackage
-from ..register.postgis import PREFIX, PostGis, faults
+from ..register.lasting import lasting
+from ..register.model import Kept, Kind, Must, Refused, factor_of
+from ..register.postgis import PREFIX, faults
 from ..register.refreshing import refresh as refreshed
 from ..register.registers import Register
-from ..register.snapping import snap
+from ..register.ruling import accept as accepted, add_rule, drop_rule
 from ..register.watching import Watching
-from ..words import Group, argument, flag, option, program
+from ..words import FILE as STORE, Group, argument, flag, option, program
+from .store_sources import files_of, grid_of
 
 FILE = argument("file", metavar="FILE")
 PROGRAM = program(FEATURES)
@@ -76,28 +75,9 @@ def command() -> None:
     """
 
 
-def engine_of(file: str) -> Engine:
-    """The database that is named: a GeoPackage, or PostGIS by the words of libpq after PG:."""
-    if file.startswith(PREFIX):
-        return PostGis(file)
-    return GeoPackage(file)
-
-
-def opened(file: str) -> Register:
-    """The register of a file."""
-    register = Register(engine_of(file))
-    register.need()
-    return register
-
-
 def program_asked(path: str | None, factor: Fraction) -> Program:
     """How the program is asked."""
     return Program(Ask(path or found_program(FEATURES)), factor)
-
-
-def lasting(program: Program) -> Program:
-    """The same by one process that stays."""
-    return Program(dataclasses.replace(program.ask, runs=Lasting()), program.factor)
 
 
 def ready(file: str, program: str | None) -> tuple[Register, Program]:
@@ -106,48 +86,12 @@ def ready(file: str, program: str | None) -> tuple[Register, Program]:
     return register, program_asked(program, register.state().factor)
 
 
-def begun(file: str, names: list[str], grid: str | None, idents: dict[str, str], snaps: bool) -> None:
-    """Makes a register where none is there, and takes layers in, on its grid where that is wanted."""
-    register = Register(engine_of(file))
-    if not register.engine.is_register():
-        factor = factor_of(grid) if grid else grid_for(register.engine, names)
-        register.begin(factor)
-        say(f"the grid is {float(1 / factor):g}")
-    elif grid and factor_of(grid) != register.need().factor:
-        raise Refused(f"the register has a grid of {float(1 / register.need().factor):g} already")
-    for name in names:
-        register.engine.layer(name, idents.get(name))
-    if snaps:
-        snapped_onto(file, names, register.need().factor)
-    for name in names:
-        register.adopt(name, idents.get(name))
-        say(f"{name}: {len(register.engine.features(register.layer(name)).fids)} features")
-
-
-def snapped_onto(file: str, names: list[str], factor: Fraction) -> None:
-    """Takes layers onto a grid."""
-    if file.startswith(PREFIX):
-        raise Refused("in PostGIS a layer is not brought onto a grid: ST_SnapToGrid does that")
-    engine = GeoPackage(file, writes_layers=True)
-    for name, count in snap(engine, [engine.layer(name, None) for name in names], factor).items():
-        if count:
-            say(f"{name}: {count} features are on the grid now, corners on borders of others taken into these")
-    engine.close()
-
-
-def idents_of(words: tuple[str, ...], names: list[str]) -> dict[str, str]:
-    """What calls the features of layers: LAYER=COLUMN, or COLUMN for all."""
-    found: dict[str, str] = {}
-    for word in words:
-        name, is_of_one, column = word.rpartition("=")
-        if is_of_one and name not in names:
-            raise Refused(f"--id {word}: no layer {name} among {', '.join(names)}")
-        found |= {name: column} if is_of_one else dict.fromkeys(names, column)
-    return found
-
-
-@command.command(params=[FILE, argument("files", metavar="SOURCE...", nargs=-1, required=True), GRID, IDENT])
-def init(file: str, files: tuple[str, ...], grid: str | None, idents: tuple[str, ...]) -> None:
+@command.command(params=[
+    FILE, argument("files", metavar="SOURCE...", nargs=-1), GRID, IDENT,
+    option("--from-store store", "the layers of a store, and its features", STORE, metavar="STORE"),
+    option("--live", PROGRAM_HELP.format(LIVE), metavar="PATH")])
+def init(file: str, files: tuple[str, ...], grid: str | None, idents: tuple[str, ...], store: Path | None,
+         live: str | None) -> None:
     """Makes a GeoPackage of maps in other files, and a register in it."""
     if file.startswith(PREFIX):
         raise Refused("layers come into PostGIS by ogr2ogr or shp2pgsql; then `overlay register adopt` takes them")
@@ -155,8 +99,15 @@ def init(file: str, files: tuple[str, ...], grid: str | None, idents: tuple[str,
         raise Refused(f"{file} is there already: `overlay register adopt` makes a register in it")
     if grid:
         factor_of(grid)
+    if not files and store is None:
+        raise Refused("of which maps is it to be made? Name files, or --from-store")
     names = [name for source in files for name in sources.copy(source, file)]
-    begun(file, names, grid, idents_of(idents, names), snaps=True)
+    if store is not None:
+        with tempfile.TemporaryDirectory() as folder:
+            for called, source in files_of(store, Path(folder), live).items():
+                names += sources.copy(str(source), file, called=called)
+        grid = grid or grid_of(store)
+    begun(file, names, grid, idents_of(idents, names), True, say)
 
 
 @command.command(params=[
@@ -168,7 +119,7 @@ def add(file: str, source: str, layers: tuple[str, ...], idents: tuple[str, ...]
         raise Refused("layers come into PostGIS by ogr2ogr or shp2pgsql; then `overlay register adopt` takes them")
     opened(file)
     names = sources.copy(source, file, [*layers] or None)
-    begun(file, names, None, idents_of(idents, names), snaps=True)
+    begun(file, names, None, idents_of(idents, names), True, say)
 
 
 @command.command(params=[
@@ -177,7 +128,7 @@ def add(file: str, source: str, layers: tuple[str, ...], idents: tuple[str, ...]
 def adopt(file: str, layers: tuple[str, ...], grid: str | None, idents: tuple[str, ...], snaps: bool) -> None:
     """Takes layers that are in the file into its register, which is made where none is there. Their shapes are not
     changed, but by --snap."""
-    begun(file, [*layers], grid, idents_of(idents, [*layers]), snaps)
+    begun(file, [*layers], grid, idents_of(idents, [*layers]), snaps, say)
 
 
 @command.command(params=[FILE, argument("layer")])
@@ -225,6 +176,37 @@ def unkeep(file: str, name: str) -> None:
     opened(file).unkeep(name)
 
 
+@command.command(params=[
+    FILE, argument("layer"), argument("must", click.Choice([one.value for one in Must]), metavar="RULE"),
+    argument("other", required=False),
+    option("--least", "violations that are no wider are listed, and refuse no change (default: one unit of the grid)",
+           float, metavar="WIDTH"),
+    option("--reach", "a gap is no wider and no higher (default: 8 mean features)", float, metavar="WIDTH"), PROGRAM])
+def rule(file: str, layer: str, must: str, other: str | None, least: float | None, reach: float | None,
+         program: str | None) -> None:
+    """Adds a rule to a layer: "must not overlap", "must not overlap with" OTHER, "must not have gaps", or "must be
+    covered by" OTHER. What breaks it is in the table overlay_violation from then on, and a change through the front
+    that would break it is refused."""
+    register, own = ready(file, program)
+    units = None if reach is None else round(reach * float(register.state().factor))
+    made = add_rule(register, Must(must), layer, other, lasting(own), least, units, say)
+    click.echo(f"rule {made.number}: {made}")
+
+
+@command.command(params=[FILE, argument("number", int)])
+def unrule(file: str, number: int) -> None:
+    """Takes the rule of a number away, and its violations."""
+    drop_rule(opened(file), number)
+
+
+@command.command(params=[
+    FILE, argument("number", int), option("--who", "who accepts it", required=True),
+    option("--why", "the reason", required=True)])
+def accept(file: str, number: int, who: str, why: str) -> None:
+    """Accepts the violation of a number, with who and why; it stays listed."""
+    accepted(opened(file), number, who, why)
+
+
 @command.command(params=[FILE, PROGRAM])
 def refresh(file: str, program: str | None) -> None:
     """Brings all tables of results up to date, once."""
@@ -248,20 +230,7 @@ def watch(file: str, program: str | None) -> None:
 @command.command(params=[FILE])
 def status(file: str) -> None:
     """Says of which state results are, what is pending, and what is wrong with features."""
-    register = opened(file)
-    state, engine = register.state(), register.engine
-    click.echo(f"grid {float(1 / state.factor):g}, version {state.version}" + (f" of {state.at}" if state.at else ""))
-    pending = {name: count for name, count in engine.ask(statements.PENDING_OF)}
-    for layer in register.layers().values():
-        armed = "" if engine.is_armed(layer) else "; its triggers are not as they were made: refresh makes them again"
-        click.echo(f"layer {layer.name}: {pending.get(layer.name, 0)} changes pending{armed}")
-    for one in register.kept():
-        rows, unanswered = register.count(one)
-        of = one.expression or " ".join(one.layers())
-        click.echo(f"{one.table()}: {one.kind.value} {of}, {rows} rows"
-                   + (f", {unanswered} without an answer" if unanswered else ""))
-    for what, count in engine.ask(statements.PROBLEMS_OF):
-        click.echo(f"problem: {count} features: {what}")
+    click.echo("\n".join(standing(opened(file))))
 
 
 @command.command(params=[

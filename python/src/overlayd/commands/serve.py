@@ -1,5 +1,7 @@
-"""Serves a store of overlay_live on the web: OGC API - Features, and a page with a map.
+"""Serves a register, or a store of overlay_live, on the web: OGC API - Features, and of a store a page with a map.
 
+    overlay serve land.gpkg --writable                     a register, whose features can be changed
+    overlay serve PG:service=land                          one in PostGIS, for reading
     overlay serve --store map.db                           http://127.0.0.1:8080/
     overlay serve --store map.db --create --writable       layers can be defined and dropped
 
@@ -22,7 +24,7 @@ import urllib.parse
 import click
 
 from ..web.usual import LEAFLET, LOOPBACK
-from ..words import FILE, Words, flag, option, subcommand
+from ..words import FILE, Words, argument, flag, option, subcommand
 
 
 def is_loopback(host: str) -> bool:
@@ -48,7 +50,9 @@ def hosts_of(words: Words) -> set[str]:
 
 
 @subcommand(
-    __doc__, option("--store", "the store; without it all is lost at the end", FILE, metavar="FILE"),
+    __doc__, argument("register", required=False, metavar="[REGISTER]"),
+    option("--who", "of a register: the header in which a server before this one says who asks", metavar="HEADER"),
+    option("--store", "the store; without it all is lost at the end", FILE, metavar="FILE"),
     flag("--create", "make the store anew"),
     option("--scale", "what its whole numbers mean (default: NAME.scale.json beside the store, if it is there)", FILE,
            metavar="FILE"),
@@ -67,8 +71,10 @@ def hosts_of(words: Words) -> set[str]:
 def command(words: Words) -> int:
     if words.writable and not is_loopback(words.host):
         raise click.UsageError("--writable is for the loopback alone")
-    if not words.writable and (words.create or not words.store):
-        raise click.UsageError("without --writable it reads: name a --store that is there")
+    if words.register and (words.store or words.create or words.scale or words.features):
+        raise click.UsageError("a register or a --store, and not both")
+    if not words.writable and (words.create or not (words.store or words.register)):
+        raise click.UsageError("without --writable it reads: name a register or a --store that is there")
     if words.base is not None and not is_address(words.base):
         raise click.UsageError("--base is the address of a server, which begins with http:// or https://")
     from ..web import running

@@ -38,7 +38,7 @@ import click
 from .. import ending
 from ..ending import Unusable
 from ..program import Ended, Layer, Refused, Server
-from ..program_files import found_program
+from ..program_files import OVERLAY, found_program
 from ..store.describing import Described
 from ..store.layers import Layers
 from ..words import CRS, FILE, PROGRAM, Words, argument, flag, option, subcommand
@@ -49,7 +49,7 @@ from .show_folder import (
     unfinished,
 )
 
-FRONT = [sys.executable, str(pathlib.Path(__file__).resolve().parents[1] / "__main__.py"), "serve"]
+FRONT = [*OVERLAY, "serve"]
 NAMED = "both"
 DEVICE = "error 30"  # that a file could not be read or written
 ENDING = 60.0  # seconds that a front has to end

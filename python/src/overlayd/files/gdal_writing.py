@@ -4,6 +4,7 @@ Of more than PART_MAX pieces, pieces.gpkg becomes pieces-001.gpkg, pieces-002.gp
 names them with their extents: QGIS and GDAL open that as one layer, and look into no part that is elsewhere. """
 
 import contextlib
+import html
 import re
 import sys
 import traceback
@@ -12,7 +13,6 @@ from dataclasses import dataclass, field
 from itertools import chain, islice
 from pathlib import Path
 from typing import Any
-from xml.sax.saxutils import escape, quoteattr, unescape
 
 from .. import ending
 from ..ending import Unusable
@@ -147,14 +147,14 @@ class Writing:
 
 def index_of(parts: Iterable[Part]) -> str:
     """A virtual file of GDAL that shows all parts as one layer."""
-    lines = ["<OGRVRTDataSource>", f"  <OGRVRTUnionLayer name={quoteattr(LAYER)}>"]
+    lines = ["<OGRVRTDataSource>", f'  <OGRVRTUnionLayer name="{LAYER}">']
     for part in parts:
-        lines.append(f"    <OGRVRTLayer name={quoteattr(LAYER)}>")
-        lines.append(f'      <SrcDataSource relativeToVRT="1">{escape(part.path.name)}</SrcDataSource>')
+        name = html.escape(part.path.name, quote=False)
+        lines += [f'    <OGRVRTLayer name="{LAYER}">', f'      <SrcDataSource relativeToVRT="1">{name}</SrcDataSource>']
         if part.extent:
             west, east, south, north = part.extent
-            for name, value in (("XMin", west), ("YMin", south), ("XMax", east), ("YMax", north)):
-                lines.append(f"      <Extent{name}>{value!r}</Extent{name}>")
+            for end, value in (("XMin", west), ("YMin", south), ("XMax", east), ("YMax", north)):
+                lines.append(f"      <Extent{end}>{value!r}</Extent{end}>")
         lines.append("    </OGRVRTLayer>")
     return "\n".join([*lines, "  </OGRVRTUnionLayer>", "</OGRVRTDataSource>", ""])
 
@@ -166,7 +166,7 @@ def named_by(index: Path, path: Path) -> set[Path]:
     except ValueError:
         return set()
     own = re.compile(rf"{re.escape(path.stem)}-[0-9]{{3,}}{re.escape(path.suffix)}")
-    names = [unescape(name) for name in re.findall(r"<SrcDataSource[^>]*>([^<]*)<", text)]
+    names = [html.unescape(name) for name in re.findall(r"<SrcDataSource[^>]*>([^<]*)<", text)]
     return {path.with_name(name) for name in names} if all(map(own.fullmatch, names)) else set()
 
 

@@ -7,7 +7,7 @@ from dataclasses import dataclass
 import numpy as np
 
 from ..geometry.flat_arrays import Numbers
-from ..kernel.columns import COUNT, Column, columns_joined, counts_at
+from ..kernel.columns import Column, columns_joined, counts_at
 from ..kernel.ring_walk import HEAD, MULTIPOLYGON, ORDER, POLYGON, plain_kind
 from .arrow_reading import Batch, Layer, ReadingFault
 
@@ -36,11 +36,10 @@ def read(path: str, name_by: str | None, layer: str | None = None, where: str | 
     parts, left_out = list[tuple[Column, Numbers, Numbers]](), list[str]()
     for batch in table.batches():
         kinds = kinds_of(batch.column)
-        polygons = np.flatnonzero((kinds == POLYGON) | (kinds == MULTIPOLYGON))
-        labels = labels_of(path, batch, name_by)
-        left_out += [f"{labels[place]}: {kind_name(int(kinds[place]))}" for place in np.flatnonzero(
-            (kinds != POLYGON) & (kinds != MULTIPOLYGON)).tolist()]
-        parts.append((batch.column.part(polygons), batch.names[polygons], labels[polygons]))
+        other = (kinds != POLYGON) & (kinds != MULTIPOLYGON)
+        part = batch.column, batch.names, labels_of(path, batch, name_by)
+        left_out += [f"{part[2][place]}: {kind_name(int(kinds[place]))}" for place in np.flatnonzero(other).tolist()]
+        parts.append((part[0].part(np.flatnonzero(~other)), part[1][~other], part[2][~other]) if other.any() else part)
     none: Numbers = np.zeros(0, object)
     names, labels = (np.concatenate([none, *(part[place] for part in parts)]) for place in (1, 2))
     return MapColumn(path, columns_joined([part[0] for part in parts]), names, labels, system, left_out)
@@ -59,8 +58,7 @@ def kinds_of(column: Column) -> Numbers:
     full = np.flatnonzero(np.diff(column.at) >= HEAD)
     begins = column.at[:-1][full]
     found: Numbers = np.zeros(len(column), np.int64)
-    padded = np.concatenate([column.data, np.zeros(COUNT, np.uint8)])
-    found[full] = plain_kind(counts_at(padded, begins + ORDER, padded[begins] == 0))
+    found[full] = plain_kind(counts_at(column.data, begins + ORDER, column.data[begins] == 0))
     return found
 
 

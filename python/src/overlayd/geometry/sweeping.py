@@ -1,8 +1,9 @@
 """Sweeps the pieces of a boundary from left to right, and finds of each on which side the inside is, and what is below.
 
-For n pieces this takes time in proportion to n log n, however they lie.
+For n pieces this takes time in proportion to n log n, but for moving numbers in a list of those that a line in x meets.
 """
 
+import bisect
 import contextlib
 import functools
 import gc
@@ -13,7 +14,6 @@ from ..ending import Unusable
 from ..program import Piece, Point as Corner
 from .plane import turn
 
-BLOCK_MAX = 512
 # A, B, C with A X + B Y + C W > 0 above a piece (B is 0 where it is vertical), and the piece's number.
 Line = list[int]
 
@@ -55,92 +55,28 @@ def line_of(piece: Piece, number: int) -> Line:
 
 
 class Status:
-    """The pieces that a line in x meets, just right of it, from the lowest up.
-
-    They are kept in blocks, so that few move at a time.
-    """
+    """The pieces that a line in x meets, just right of it, from the lowest up."""
 
     def __init__(self) -> None:
-        self.blocks: list[list[Line]] = [[]]  # none of several is empty
-        self.last: tuple[int, int] | None = None  # the block and the place after what began last, where it is known
-
-    def block_of(self, point: Corner) -> int:
-        """The last block whose first piece passes under a point, or the first one where there is none."""
-        x, y, w = point
-        low, high = 1, len(self.blocks)
-        while low < high:
-            half = (low + high) // 2
-            a, b, c, _ = self.blocks[half][0]
-            if a * x + b * y + c * w > 0:
-                low = half + 1
-            else:
-                high = half
-        return low - 1
-
-    def place_of(self, point: Corner) -> tuple[int, int]:
-        """The block and the place in it of the first piece that does not pass under a point."""
-        place = self.block_of(point)
-        return place, passing_under(self.blocks[place], point)
+        self.lines: list[Line] = []
+        self.last: int | None = None  # the place after what began last, where it is known
 
     def replace(self, point: Corner, count: int, begun: list[Line], goes_on: bool) -> tuple[list[Line], int | None]:
         """Puts pieces that begin at a point in the place of so many that end there; these, and the piece below them.
 
-        Where a vertical piece leads to the point from the one before, no other piece is between.
+        Where a vertical piece leads to the point from the one before, no other piece is between. A piece that passes
+        through a point at which it does not end is refused.
         """
-        place, at = self.last if goes_on and self.last else self.place_of(point)
-        block = self.blocks[place]
-        ended = block[at : at + count]
-        block[at : at + count] = begun
-        while len(ended) < count and place + 1 < len(self.blocks):
-            ended += self.first_of(place + 1, count - len(ended))
-        self.check_above(place, at + len(begun), point)
-        below = block[at - 1][3] if at else None
-        self.last = place, at + len(begun)
-        if not block or len(block) > BLOCK_MAX:
-            self.fit(place)
-            self.last = None
-        return ended, below
-
-    def check_above(self, place: int, at: int, point: Corner) -> None:
-        """Refuses a piece that passes through a point at which it does not end."""
-        block = self.blocks[place]
-        if at == len(block):
-            if place + 1 == len(self.blocks):
-                return
-            block, at = self.blocks[place + 1], 0
-        a, b, c, _ = block[at]
-        if a * point[0] + b * point[1] + c * point[2] >= 0:
-            raise Unusable("two pieces lie on each other")
-
-    def first_of(self, place: int, count: int) -> list[Line]:
-        """Takes so many pieces, or as many as there are, from the begin of a block."""
-        block = self.blocks[place]
-        taken = block[:count]
-        del block[:count]
-        self.fit(place)
-        return taken
-
-    def fit(self, place: int) -> None:
-        """Parts a block that is too long, and drops one that is empty."""
-        block = self.blocks[place]
-        if len(block) > BLOCK_MAX:
-            self.blocks[place : place + 1] = [block[: len(block) // 2], block[len(block) // 2 :]]
-        elif not block and len(self.blocks) > 1:
-            del self.blocks[place]
-
-
-def passing_under(lines: list[Line], point: Corner) -> int:
-    """How many of the pieces pass under a point."""
-    x, y, w = point
-    low, high = 0, len(lines)
-    while low < high:
-        half = (low + high) // 2
-        a, b, c, _ = lines[half]
-        if a * x + b * y + c * w > 0:
-            low = half + 1
-        else:
-            high = half
-    return low
+        x, y, w = point
+        at = self.last if goes_on and self.last is not None else bisect.bisect_left(
+            self.lines, True, key=lambda line: line[0] * x + line[1] * y + line[2] * w <= 0)
+        ended = self.lines[at : at + count]
+        self.lines[at : at + count] = begun
+        self.last = at + len(begun)
+        for a, b, c, _ in self.lines[self.last : self.last + 1]:
+            if a * x + b * y + c * w >= 0:
+                raise Unusable("two pieces lie on each other")
+        return ended, self.lines[at - 1][3] if at else None
 
 
 @dataclass

@@ -18,6 +18,8 @@ FINE = 2**16
 HALF, UNIT = FINE, 2 * FINE
 FARTHEST = 2**41  # a coordinate is no greater than this either way, in units
 SURE_DIGITS = grid.SURE_DIGITS
+FEW = (3, 8)  # digits after the point of most maps in metres and in degrees
+EXACT_PLACES = 27  # 10^27 is a long double
 
 
 class BeyondRange(Exception):
@@ -53,8 +55,21 @@ def check_range(doubles: Numbers, factor: Fraction) -> None:
 
 
 def floors(doubles: Numbers, ratio: Fraction) -> Numbers:
-    """floor(decimal * ratio), below 2^62, of the decimals that doubles stand for: by long doubles where half a last
-    place either way does not matter, else by the decimals."""
+    """floor(decimal * ratio), below 2^62, of the shortest decimals that print as doubles: at once of those with few
+    digits, else by long doubles where half a last place either way does not matter, else by all digits."""
+    found: Numbers = np.zeros(len(doubles), np.int64)
+    left: Numbers = np.arange(len(doubles))
+    for places in FEW:
+        numbers = np.rint(doubles[left] * 10.0**places)
+        few = (np.abs(numbers) < 10**SURE_DIGITS) & (numbers / 10.0**places == doubles[left])
+        found[left[few]] = floors_of_products(numbers[few].astype(np.int64), ratio / 10**places)
+        left = left[~few]
+    found[left] = floors_by_long(doubles[left], ratio)
+    return found
+
+
+def floors_by_long(doubles: Numbers, ratio: Fraction) -> Numbers:
+    """The same by long doubles, or by all digits."""
     by = np.longdouble(ratio.numerator) / np.longdouble(ratio.denominator)
     scaled = doubles.astype(np.longdouble) * by
     found: Numbers = scaled.astype(np.int64)
@@ -63,23 +78,49 @@ def floors(doubles: Numbers, ratio: Fraction) -> Numbers:
     part += part < 0
     slack = np.spacing(np.abs(doubles)) * float(by) * 0.501 + 4 * float(np.finfo(np.longdouble).eps) * np.abs(found)
     unsure = np.flatnonzero((part <= slack) | (part >= 1 - slack))
-    found[unsure] = floors_of_decimals(doubles[unsure], ratio)
+    found[unsure] = floors_by_digits(doubles[unsure], ratio)
     return found
 
 
-def floors_of_decimals(doubles: Numbers, ratio: Fraction) -> Numbers:
-    """The same by decimals: many at once where these have at most 15 digits, which are then the shortest ones."""
+def floors_by_digits(doubles: Numbers, ratio: Fraction) -> Numbers:
+    """The same by all digits, of many at once where long doubles tell them."""
     found: Numbers = np.zeros(len(doubles), np.int64)
-    left: Numbers = np.arange(len(doubles))
-    for digits in range(SURE_DIGITS + 1):
-        numbers = np.rint(doubles[left] * 10.0**digits)
-        good = (np.abs(numbers) < 10**SURE_DIGITS) & (numbers / 10.0**digits == doubles[left])
-        found[left[good]] = floors_of_products(numbers[good].astype(np.int64), ratio / 10**digits)
-        left = left[~good]
+    left = np.flatnonzero(doubles)
+    size: Numbers = np.zeros(len(doubles), np.int64)  # digits before the point, or one more
+    size[left] = np.floor(np.log10(np.abs(doubles[left])) + 1e-9) + 1
+    none: Numbers = np.zeros(0, np.int64)
+    slow = [none]
+    for digits in range(SURE_DIGITS, grid.DOUBLE_DIGITS + 1):
+        more = [none]
+        for places in np.unique(digits - size[left]).tolist():
+            own = left[digits - size[left] == places]
+            numbers, are, may_be = decimals(doubles[own], places)
+            found[own[are]] = floors_of_products(numbers[are], ratio / Fraction(10) ** places)
+            slow.append(own[may_be & ~are])
+            more.append(own[~may_be])
+        left = np.concatenate(more)
+    left = np.concatenate([left, *slow])
     top, bottom = ratio.numerator, ratio.denominator
     found[left] = [one.numerator * top // (one.denominator * bottom)
                    for one in map(grid.spelled, doubles[left].tolist())]
     return found
+
+
+def decimals(doubles: Numbers, places: int) -> tuple[Numbers, Numbers, Numbers]:
+    """The decimals of so many places that are next to doubles, of two the even one, as whole numbers below 2^63; which
+    of them surely print as their double, and which may do."""
+    power = np.longdouble(10) ** places
+    scaled = doubles.astype(np.longdouble) * power
+    numbers = np.rint(scaled)
+    off = np.abs(scaled - numbers)
+    mantissas, long = (np.frexp(doubles)[0] * 2.0**53).astype(np.int64), np.finfo(np.longdouble)
+    is_exact = np.abs(mantissas // (mantissas & -mantissas)) * 5.0**places < 2.0**long.nmant
+    slack = np.where(is_exact, 0, np.abs(scaled) * long.eps)
+    if not 0 <= places <= EXACT_PLACES:
+        slack[:] = np.inf
+    own = np.abs(doubles)
+    under, over = (np.spacing(one) * power / 2 for one in (np.nextafter(own, 0), own))
+    return numbers.astype(np.int64), (off < under - slack) & (off <= 0.5 - slack), off <= over + slack
 
 
 def floors_of_products(numbers: Numbers, ratio: Fraction) -> Numbers:

@@ -50,6 +50,8 @@ def of_bytes(shapes: Sequence[bytes | None]) -> Column:
 
 def columns_joined(columns: Sequence[Column]) -> Column:
     """The shapes of several columns in one."""
+    if len(columns) == 1:
+        return columns[0]
     sizes = [np.diff(one.at) for one in columns]
     data = [one.data for one in columns]
     return Column(np.concatenate([np.zeros(0, np.uint8), *data]), offsets(np.concatenate([np.zeros(0, int), *sizes])))

@@ -74,7 +74,7 @@ class Doing:
         if self.processes == 0:
             return engines.only_planned
         count = min(self.processes, len(folder.left()))
-        return engines.by_processes(count) if count > 1 else engines.in_process
+        return engines.several(count) if count > 1 else engines.in_process
 
 
 @dataclass

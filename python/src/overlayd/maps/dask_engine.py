@@ -29,8 +29,8 @@ IN_HAND = 3  # tasks a thread of a worker: what is done, what waits, what is on 
 WORKERS_WITHIN = 30  # seconds
 SOURCES = pathlib.Path(overlayd.__file__).resolve().parents[1]
 # What a worker elsewhere needs.
-SENT = ("__init__", "progress", "files/__init__", "files/writing", "maps/__init__", "maps/deaths", "maps/engines",
-        "maps/replying", "maps/tasks")
+SENT = ("__init__", "progress", "files/__init__", "files/writing", "maps/__init__", "maps/engines", "maps/replying",
+        "maps/tasks")
 NEEDED = (
     "--dask needs Dask: apt-get install python3-distributed python3-cryptography, and run this by /usr/bin/python3; "
     "--jobs N needs nothing")

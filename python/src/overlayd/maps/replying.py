@@ -2,9 +2,11 @@
 
 from __future__ import annotations
 
+import contextlib
 import subprocess
 from dataclasses import dataclass
 
+TRIES = 3  # of a block whose program ends each time
 SAID = 400  # bytes of what a program says that are told
 
 
@@ -19,11 +21,11 @@ class ByProgram:
     path: str
 
     def __call__(self, block: bytes) -> bytes:
-        """The reply, by another program where the first one ended."""
-        try:
-            return self._reply(block)
-        except ProgramEnded:
-            return self._reply(block)
+        """The reply, by another program where one ended."""
+        for _ in range(TRIES - 1):
+            with contextlib.suppress(ProgramEnded):
+                return self._reply(block)
+        return self._reply(block)
 
     def _reply(self, block: bytes) -> bytes:
         done = subprocess.run([self.path], input=block, stdout=subprocess.PIPE, stderr=subprocess.PIPE, check=False)

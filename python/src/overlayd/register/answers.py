@@ -10,10 +10,11 @@ from fractions import Fraction
 import numpy as np
 
 from ..geometry.flat_arrays import Numbers, after_of, offsets, owners
-from ..kernel.asking import Areas, Ask
-from ..kernel.blocks import Asked, Kind, block, cells_job, pair_blocks
+from ..kernel.asking import Areas, Ask, doubles_of, whole_of
+from ..kernel.blocks import Asked, Kind, Wants, block, cells_job, pair_blocks
 from ..kernel.box_pairs import pairs, pairs_within
 from ..kernel.colouring import TooManyColours, colours
+from ..kernel.columns import columns_joined, of_bytes
 from ..kernel.features import Features, joined, of_rings
 from ..kernel.laying import Laid
 from ..kernel.overlaying import Overlay, answered
@@ -24,6 +25,7 @@ from .model import Refused, spelled
 from .taking import Problem, Taken
 
 NO_ANSWER = "no answer"
+CORE = "Core"  # what an expression calls all of a core
 CELLS_AT_ONCE = 200
 SQUARE = of_rings(np.array([0, 1, 1, 0]), np.array([0, 0, 1, 1]), np.array([4]), np.array([1]))
 Pair = tuple[int, int, str, float | None, float | None]
@@ -44,22 +46,23 @@ class Program:
         for at in range(0, len(asked), self.ask.size):
             yield rows_of(self.overlay(a, b, asked[at : at + self.ask.size]))
 
-    def overlay(self, a: Features, b: Features, asked: Numbers) -> Overlay:
+    def overlay(self, a: Features, b: Features, asked: Numbers, wants: Wants = Wants.NOTHING) -> Overlay:
         """The same as the kernel has them. Where the program refuses a block, or ends, its halves are asked."""
-        laid = Laid([], self.factor, "", [])
+        laid, ask = Laid([], self.factor, "", []), dataclasses.replace(self.ask, wants=wants)
         if not len(asked):
-            return Overlay(asked, np.zeros(0, PAIR), None, laid)
+            return Overlay(asked, np.zeros(0, PAIR), of_bytes([]), laid)
         try:
-            return answered(asked, pair_blocks(a, b, asked, size=self.ask.size), laid, self.ask)
+            return answered(asked, pair_blocks(a, b, asked, wants, self.ask.size), laid, ask)
         except (BlockRefused, ProgramEnded) as fault:
             if len(asked) == 1:
                 self.need_to_work(fault)
                 row = np.zeros(1, PAIR)
                 row["fault"] = fault.fault if isinstance(fault, BlockRefused) else 1
-                return Overlay(asked, row, None, laid)
-            halves = [self.overlay(a, b, own) for own in np.array_split(asked, 2)]
+                return Overlay(asked, row, of_bytes([None]), laid)
+            halves = [self.overlay(a, b, own, wants) for own in np.array_split(asked, 2)]
+            outlines = columns_joined([one.outlines for one in halves if one.outlines is not None])
             return Overlay(np.concatenate([one.pairs for one in halves]), np.concatenate([one.rows for one in halves]),
-                           None, laid)
+                           outlines, laid)
 
     def need_to_work(self, fault: Exception) -> None:
         """Refuses to go on where the program does not answer what it can."""
@@ -76,9 +79,9 @@ class Program:
         refused = found.rows["fault"] > 0
         whole = found.areas("a")
         simple = outlined(taken)[found.pairs[:, 0]]
-        low = np.ascontiguousarray(whole.parts["low"]) >> np.uint64(40)
-        high = np.ascontiguousarray(whole.parts["high"]).astype(np.uint64) << np.uint64(24)
-        crosses = ((low | high) != simple) | (doubled(whole.off) > 0)
+        crosses = doubles_of(whole.parts) != simple * 2.0**40
+        for row in np.flatnonzero(crosses):
+            crosses[row] = abs(whole.whole(row) - (int(simple[row]) << 40)) > whole_of(whole.off[row])
         told = [*taken.told, *((int(place), Problem.CROSSING.value) for place in found.pairs[crosses & ~refused, 0])]
         nothing = np.setdiff1d(live, found.pairs[:, 0])
         own = dataclasses.replace(taken, told=told).without(nothing, Problem.NO_AREA.value)
@@ -88,11 +91,12 @@ class Program:
 
     def cells(self, maps: dict[str, Features], expression: str, cells: Numbers, width: int) -> Iterator[list[Cell]]:
         """The rows of cells, by their numbers, in which an expression over maps has an area."""
-        names = sorted(maps)
-        apart = [self.apart(maps[name]) for name in names]
-        for at in range(0, len(cells), CELLS_AT_ONCE):
-            yield self._cells([maps[name] for name in names], names, apart, expression, cells[at : at + CELLS_AT_ONCE],
-                              width)
+        cores = np.concatenate([cells * width, (cells + 1) * width], axis=1)
+        for places, found in self.within(maps, expression, cores):
+            if found is None:
+                yield [(i, j, None, None) for i, j in cells[places].tolist()]
+            else:
+                yield rows_of_cells(found, cells[places], self.factor)
 
     def apart(self, features: Features) -> Numbers:
         """Which features of a map overlap, or may, as the program has no answer."""
@@ -100,50 +104,81 @@ class Program:
         found: Numbers = rows.pairs[(rows.relations() >= Relation.OVERLAPS) | (rows.rows["fault"] > 0)]
         return found
 
-    def _cells(self, maps: list[Features], names: list[str], apart: list[Numbers], expression: str, cells: Numbers,
-               width: int) -> list[Cell]:
-        """The rows of some cells, whose halves are asked where the program refuses them or layers do not do."""
-        cores = np.concatenate([cells * width, (cells + 1) * width], axis=1)
-        members = [pairs(cores, one.boxes()) for one in maps]
+    def within(self, maps: dict[str, Features], expression: str, cores: Numbers,
+               members: dict[str, Numbers] | None = None, wants: Wants = Wants.NOTHING
+               ) -> Iterator[tuple[Numbers, Rows | None]]:
+        """An expression over maps within cores, of which the word Core is the whole: some of these, and their rows;
+        None where there is no answer to one. members are the pairs of cores and features that count where not all do
+        that meet a core."""
+        names, known = sorted(maps), members or {}
+        asked = Maps([maps[name] for name in names], names, [self.apart(maps[name]) for name in names], expression)
+        for at in range(0, len(cores), CELLS_AT_ONCE):
+            some = cores[at : at + CELLS_AT_ONCE]
+            meet = [part_of(known[name], at, at + len(some)) if name in known else pairs(some, maps[name].boxes())
+                    for name in names]
+            for places, rows in self._within(asked, some, meet, wants):
+                yield places + at, rows
+
+    def _within(self, maps: Maps, cores: Numbers, members: list[Numbers], wants: Wants
+                ) -> Iterator[tuple[Numbers, Rows | None]]:
+        """The same for some cores, whose halves are asked where the program refuses them or layers do not do."""
         try:
-            job = asked_of(maps, names, apart, expression, cores, members)
-            (found,) = self.ask.rows([job], 1)
+            (found,) = self.ask.rows([maps.block(cores, members, wants)], 1)
+            yield np.arange(len(cores)), found
+            return
         except (BlockRefused, ProgramEnded, TooManyColours) as fault:
-            if len(cells) > 1:
-                return [row for own in np.array_split(cells, 2) for row in
-                        self._cells(maps, names, apart, expression, own, width)]
-            if not isinstance(fault, TooManyColours):
-                self.need_to_work(fault)
-            ((i, j),) = cells.tolist()
-            return [(i, j, None, None)]
-        return rows_of_cells(found, cells, self.factor)
+            if len(cores) == 1:
+                if not isinstance(fault, TooManyColours):
+                    self.need_to_work(fault)
+                yield np.arange(1), None
+                return
+        middle = len(cores) // 2
+        for begin, end in ((0, middle), (middle, len(cores))):
+            own = [part_of(one, begin, end) for one in members]
+            for places, rows in self._within(maps, cores[begin:end], own, wants):
+                yield places + begin, rows
 
 
-def asked_of(maps: list[Features], names: list[str], apart: list[Numbers], expression: str, cores: Numbers,
-             members: list[Numbers]) -> bytes:
-    """The block that asks what an expression is in some cores, of maps the pairs of cores and features that meet."""
-    parts, jobs, layers, begun, unions = [], [], [], 0, {}
-    for name, features, pairs_apart, meet in zip(names, maps, apart, members):
-        own, place = np.unique(meet[:, 1], return_inverse=True)
-        place_of = np.full(len(features), -1)
-        place_of[own] = np.arange(len(own))
-        near = place_of[pairs_apart]
-        colour = colours(len(own), near[(near >= 0).all(axis=1)], LAYERS - begun) + begun
-        parts.append(features.part(own))
-        unions[name] = "(" + (" | ".join(map(name_of, np.unique(colour).tolist())) or "Core - Core") + ")"
-        jobs.append((meet[:, 0], place))
-        layers.append(colour)
-        begun = max(begun, int(colour.max(initial=begun - 1)) + 1)
-    sizes = offsets(np.array([len(one) for one in parts]))
-    core = np.concatenate([one for one, _ in jobs])
-    member = np.concatenate([place + at for (_, place), at in zip(jobs, sizes)])
-    layer = np.concatenate([own[place] for (_, place), own in zip(jobs, layers)])
-    order = np.argsort(core, kind="stable")
-    ends = offsets(np.bincount(core, minlength=len(cores)))
-    made = [cells_job((west, east, south, north), member[order[begin:end]], layer[order[begin:end]])
-            for (west, south, east, north), begin, end in zip(cores.tolist(), ends, ends[1:])]
-    asked = Asked(Kind.CELLS, np.concatenate(made), len(made), spelled(expression, unions).encode(), max(1, begun))
-    return block(joined(parts), asked)
+@dataclass(frozen=True)
+class Maps:
+    """Maps in an order, their names, the pairs of each that overlap, and an expression over the names."""
+
+    maps: list[Features]
+    names: list[str]
+    apart: list[Numbers]
+    expression: str
+
+    def block(self, cores: Numbers, members: list[Numbers], wants: Wants) -> bytes:
+        """The block that asks what the expression is in some cores, of maps the pairs of cores and features."""
+        parts, jobs, layers, begun, unions = [], [], [], 0, {CORE: CORE}
+        for name, features, pairs_apart, meet in zip(self.names, self.maps, self.apart, members):
+            own, place = np.unique(meet[:, 1], return_inverse=True)
+            place_of = np.full(len(features), -1)
+            place_of[own] = np.arange(len(own))
+            near = place_of[pairs_apart]
+            colour = colours(len(own), near[(near >= 0).all(axis=1)], LAYERS - begun) + begun
+            parts.append(features.part(own))
+            unions[name] = "(" + (" | ".join(map(name_of, np.unique(colour).tolist())) or "Core - Core") + ")"
+            jobs.append((meet[:, 0], place))
+            layers.append(colour)
+            begun = max(begun, int(colour.max(initial=begun - 1)) + 1)
+        sizes = offsets(np.array([len(one) for one in parts]))
+        core = np.concatenate([one for one, _ in jobs])
+        member = np.concatenate([place + at for (_, place), at in zip(jobs, sizes)])
+        layer = np.concatenate([own[place] for (_, place), own in zip(jobs, layers)])
+        order = np.argsort(core, kind="stable")
+        ends = offsets(np.bincount(core, minlength=len(cores)))
+        made = [cells_job((west, east, south, north), member[order[begin:end]], layer[order[begin:end]])
+                for (west, south, east, north), begin, end in zip(cores.tolist(), ends, ends[1:])]
+        spelling = spelled(self.expression, unions).encode()
+        asked = Asked(Kind.CELLS, np.concatenate(made), len(made), spelling, max(1, begun))
+        return block(joined(parts), asked, wants)
+
+
+def part_of(members: Numbers, begin: int, end: int) -> Numbers:
+    """The pairs of some cores and features, the cores numbered anew."""
+    found: Numbers = members[(members[:, 0] >= begin) & (members[:, 0] < end)] - [begin, 0]
+    return found
 
 
 def rows_of(found: Overlay) -> list[Pair]:
@@ -186,12 +221,6 @@ def sums_of(x: Numbers, y: Numbers, after: Numbers, ring_at: Numbers) -> Numbers
     """Twice the signed areas of rings."""
     each = x * y[after] - x[after] * y
     found: Numbers = np.add.reduceat(each, ring_at[:-1]) if len(ring_at) > 1 else np.zeros(0, each.dtype)
-    return found
-
-
-def doubled(wide: Numbers) -> Numbers:
-    """Numbers of 16 bytes as doubles."""
-    found: Numbers = wide["high"] * 2.0**64 + wide["low"]
     return found
 
 

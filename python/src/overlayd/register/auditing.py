@@ -14,9 +14,11 @@ from .answers import Program
 from .engines import Row, filled
 from .filling import all_cells
 from .looking import need_layers
-from .model import Kept, Kind
+from .model import Kept, Kind, Rule
 from .registers import Register
 from .sides import Side, cell_rows, pair_rows, side_of
+from .violating import Violation, violations
+from .violation_rows import listed
 
 SHOWN = 5
 NO_CELLS: Numbers = np.zeros((0, 2), np.int64)
@@ -51,13 +53,27 @@ def audit(register: Register, program: Program, part: int = 1, draw: random.Rand
     with engine.reading():
         need_layers(register)
         kept = register.kept()
-        names = sorted({name for one in kept for name in one.layers()})
+        rules = register.rules() if part <= 1 else []
+        names = sorted({name for one in [*kept, *rules] for name in one.layers()})
         found = {name: engine.features(register.layer(name)) for name in names}
         have = {one.name: rows_in(register, one) for one in kept}
+        broken = {rule.number: [one.violation for one in listed(engine, " WHERE rule = ?", rule.number)]
+                  for rule in rules}
         pending = len(engine.ask(statements.PENDING))
     sides = {name: side_of(own, state.factor) for name, own in found.items()}
     sides = {name: Side(own.found, program.accepted(own.taken), own.is_changed) for name, own in sides.items()}
-    return [compared(one, have[one.name], sides, program, pending, chosen(sides, one, part, draw)) for one in kept]
+    return [*(compared(one, have[one.name], sides, program, pending, chosen(sides, one, part, draw)) for one in kept),
+            *(ruled(rule, broken[rule.number], sides, program, pending) for rule in rules)]
+
+
+def ruled(rule: Rule, have: list[Violation], sides: dict[str, Side], program: Program, pending: int) -> Audit:
+    """The violations of a rule beside those that are found anew."""
+    want = {(*one[:2], one.box()): one for one in violations(rule, sides, program, is_whole=True)}
+    there = {(*one[:2], one.box()): one for one in have}
+    missing = [one for key, one in want.items() if key not in there]
+    wrong = [one for key, one in there.items() if key not in want or not is_same(
+        (one.area, one.bound), (want[key].area, want[key].bound))]
+    return Audit(f"rule {rule.number}", len(have), [*missing], [*wrong], pending)
 
 
 def chosen(sides: dict[str, Side], kept: Kept, part: int, draw: random.Random | None) -> set[object] | None:

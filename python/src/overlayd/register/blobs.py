@@ -9,6 +9,8 @@ ENVELOPES = (0, 32, 48, 48, 64)  # bytes of the box in a head, by its kind
 HEAD = 8
 EXTENDED = 0x20  # the bit of a geometry that is no Well-Known Binary
 UNREADABLE = b"\0"
+POLYGON, MULTIPOLYGON = 3, 6
+GATHERED = struct.pack("<BII", 1, MULTIPOLYGON, 1)  # the head of a multipolygon of one polygon
 Box = tuple[float, float, float, float]
 
 
@@ -33,6 +35,13 @@ def blob_of(shape: bytes, system: int, box: Box | None) -> bytes:
     if box is None:
         return struct.pack("<2sBBi", MAGIC, 0, 0x11, system) + shape
     return struct.pack("<2sBBi4d", MAGIC, 0, 3, system, box[0], box[2], box[1], box[3]) + shape
+
+
+def fitted(shape: bytes, kind: str) -> bytes:
+    """A polygon as a multipolygon, for a column of these."""
+    order = "<" if shape[0] else ">"
+    is_single = struct.unpack_from(order + "I", shape, 1)[0] % 1000 == POLYGON
+    return GATHERED + shape if is_single and kind.upper().startswith("MULTI") else shape
 
 
 def box_of(blob: object) -> Box | None:

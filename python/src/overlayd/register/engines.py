@@ -60,6 +60,10 @@ class Engine(Protocol):
     def busy(self) -> tuple[type[Exception], ...]:
         """What is raised where others are in the way."""
 
+    @property
+    def unfit(self) -> tuple[type[Exception], ...]:
+        """What is raised where a table does not take a value."""
+
     def ask(self, text: str, *values: object) -> list[Row]:
         """The rows of a statement."""
 
@@ -80,6 +84,9 @@ class Engine(Protocol):
 
     def begin(self) -> None:
         """Makes the tables of a register."""
+
+    def make_functions(self) -> None:
+        """Makes the functions that triggers call, where they call any."""
 
     def create(self, name: str, columns: str, is_listed: bool) -> None:
         """Makes a table; for people, or for the register alone."""
@@ -108,8 +115,35 @@ class Engine(Protocol):
     def features(self, layer: Layer, where: str = "") -> Found:
         """Features of a layer, all or some, by their keys."""
 
-    def features_near(self, layer: Layer) -> Found:
-        """The features of a layer that were seen near the boxes of overlay_boxes."""
+    def features_near(self, layer: Layer, waits: bool = False) -> Found:
+        """The features of a layer that were seen near the boxes of overlay_boxes, and where waits all whose change is
+        pending."""
+
+    def editing(self, who: str | None) -> AbstractContextManager[int]:
+        """A transaction that writes layers, of which one is done at a time, with who does it; the number of its change
+        in the log."""
+
+    @property
+    def in_box(self) -> str:
+        """The condition that what was seen lies in a box: least x, least y, greatest x, greatest y."""
+
+    def place(self, layer: Layer) -> str:
+        """The table of a layer as statements have it."""
+
+    def columns(self, layer: Layer) -> list[str]:
+        """The columns of a layer beside its key and its geometries."""
+
+    def shape_out(self, column: str) -> str:
+        """A geometry of the table t as statements ask for it."""
+
+    def shape_read(self, value: Any) -> bytes | None:
+        """The Well-Known Binary of what they get."""
+
+    def shape_in(self, layer: Layer, shape: bytes | None) -> tuple[str, object]:
+        """Well-Known Binary as statements write it into a layer, and the value that they are given."""
+
+    def system(self, layer: Layer) -> str | None:
+        """The coordinate system of a layer, as EPSG:25832; None where it has no name."""
 
     def second(self) -> Engine:
         """Another connection."""

@@ -2,12 +2,14 @@
 
 from __future__ import annotations
 
+import dataclasses
 import queue
 from collections.abc import Generator, Iterable, Iterator
 from typing import cast
 
 from ..kernel.rows import Rows
 from ..kernel.running import GoesOn, ProgramEnded, always, run
+from .answers import Program
 
 
 class Lasting:
@@ -45,3 +47,8 @@ class Lasting:
         if self.replies is not None:
             self.replies.close()
             self.replies = None
+
+
+def lasting(program: Program) -> Program:
+    """A program asked by one process that stays."""
+    return dataclasses.replace(program, ask=dataclasses.replace(program.ask, runs=Lasting()))

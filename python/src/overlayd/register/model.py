@@ -7,7 +7,7 @@ import re
 from dataclasses import dataclass
 from fractions import Fraction
 
-FORM = 1  # the version of the tables
+FORM = 2  # the version of the tables
 NAME = re.compile(r"[A-Za-z][A-Za-z0-9_]{0,47}")
 WORD = re.compile(r'"[^"]*"|[^\W\d]\w*|\S')
 MARKS = {"(", ")", "&", "|", "-", "^"}
@@ -60,6 +60,39 @@ class Kept:
     def table(self) -> str:
         """The table of its rows."""
         return f"overlay_result_{self.name}"
+
+
+class Must(enum.Enum):
+    """What features of a layer must or must not, in the words of QGIS and of ESRI."""
+
+    NOT_OVERLAP = "must not overlap"
+    NOT_OVERLAP_WITH = "must not overlap with"
+    NOT_HAVE_GAPS = "must not have gaps"
+    BE_COVERED = "must be covered by"
+
+    def has_other(self) -> bool:
+        """Whether it is of two layers."""
+        return self in (Must.NOT_OVERLAP_WITH, Must.BE_COVERED)
+
+
+@dataclass(frozen=True)
+class Rule:
+    """A rule: its number, its layer and the other one, how wide in units of the layers what is refused is at least, and
+    how many units of the grid wide and high a gap is at most."""
+
+    number: int
+    must: Must
+    a: str
+    b: str | None
+    least: float
+    reach: int
+
+    def layers(self) -> list[str]:
+        """The layers that it is of."""
+        return [self.a] if self.b is None else [self.a, self.b]
+
+    def __str__(self) -> str:
+        return " ".join([self.a, self.must.value, *([self.b] if self.b is not None else [])])
 
 
 @dataclass(frozen=True)

@@ -8,12 +8,13 @@ import sqlite3
 import time
 from collections.abc import Callable, Iterable, Iterator, Sequence
 from pathlib import Path
+from typing import Any
 
 from . import statements
-from .blobs import box_of, well_known
+from .blobs import blob_of, bounds, box_of, fitted, well_known
 from .engines import Found, Row
 from .model import Layer, Refused
-from .package_triggers import quoted, triggers
+from .package_triggers import near, quoted, triggers
 
 PATIENCE = 30.0  # seconds for which another's lock is waited for
 LOOK = 0.05  # seconds between two looks whether something has changed
@@ -56,6 +57,10 @@ class GeoPackage:
         """What is raised where others are in the way."""
         return (sqlite3.OperationalError,)
 
+    @property
+    def unfit(self) -> tuple[type[Exception], ...]:
+        return (sqlite3.IntegrityError, sqlite3.InterfaceError, OverflowError)
+
     def ask(self, text: str, *values: object) -> list[Row]:
         return self.db.execute(text, values).fetchall()
 
@@ -97,6 +102,9 @@ class GeoPackage:
             self.create(name, columns, is_listed=False)
         self.create("overlay_who", WHO, is_listed=False)
         self.ask("INSERT INTO overlay_who (one, who, change) VALUES (1, NULL, NULL)")
+
+    def make_functions(self) -> None:
+        """Nothing: triggers call none."""
 
     def create(self, name: str, columns: str, is_listed: bool) -> None:
         body = columns.replace("id KEY", "id INTEGER PRIMARY KEY AUTOINCREMENT NOT NULL")
@@ -142,8 +150,7 @@ class GeoPackage:
 
     def _triggers(self, layer: Layer) -> dict[str, str]:
         """The triggers of a layer as they are to be."""
-        names = [name for (name,) in self.ask("SELECT name FROM pragma_table_info(?)", layer.name)]
-        return triggers(layer, [name for name in names if name not in (layer.geom, layer.key)][:MOST_COLUMNS])
+        return triggers(layer, self.columns(layer)[:MOST_COLUMNS])
 
     def arm(self, layer: Layer) -> None:
         self.disarm(layer)
@@ -163,8 +170,43 @@ class GeoPackage:
         rows = self.ask(f"SELECT t.{key}, t.{geom}, {ident} FROM {quoted(layer.name)} t {where} ORDER BY t.{key}")
         return Found([row[0] for row in rows], [well_known(row[1]) for row in rows], [row[2] for row in rows])
 
-    def features_near(self, layer: Layer) -> Found:
-        return self.features(layer, NEAR.format(key=quoted(layer.key), index=quoted(layer.index())))
+    def features_near(self, layer: Layer, waits: bool = False) -> Found:
+        return self.features(layer, near(NEAR, layer, waits))
+
+    @contextlib.contextmanager
+    def editing(self, who: str | None) -> Iterator[int]:
+        with self.writing():
+            last = self.ask("SELECT seq FROM sqlite_sequence WHERE name = 'overlay_log'")
+            number = (last[0][0] if last else 0) + 1
+            self.ask("UPDATE overlay_who SET who = ?, change = ?", who, number)
+            yield number
+            self.ask("UPDATE overlay_who SET who = NULL, change = NULL")
+
+    in_box = "maxx >= ? AND maxy >= ? AND minx <= ? AND miny <= ?"
+
+    def place(self, layer: Layer) -> str:
+        return quoted(layer.name)
+
+    def columns(self, layer: Layer) -> list[str]:
+        names = [name for (name,) in self.ask("SELECT name FROM pragma_table_info(?)", layer.name)]
+        return [name for name in names if name not in (layer.geom, layer.key)]
+
+    def shape_out(self, column: str) -> str:
+        return f"t.{column}"
+
+    def shape_read(self, value: Any) -> bytes | None:
+        return well_known(value)
+
+    def shape_in(self, layer: Layer, shape: bytes | None) -> tuple[str, object]:
+        ((kind, system),) = self.ask("SELECT geometry_type_name, srs_id FROM gpkg_geometry_columns"
+                                     " WHERE table_name = ?", layer.name)
+        return "?", None if shape is None else blob_of(fitted(shape, kind), system, bounds(shape))
+
+    def system(self, layer: Layer) -> str | None:
+        found = self.ask("SELECT s.organization, s.organization_coordsys_id FROM gpkg_geometry_columns g JOIN"
+                         " gpkg_spatial_ref_sys s ON s.srs_id = g.srs_id WHERE g.table_name = ? AND g.srs_id > 0",
+                         layer.name)
+        return f"{found[0][0].upper()}:{found[0][1]}" if found else None
 
     def second(self) -> GeoPackage:
         return GeoPackage(self.path, self.writes_layers, self.patience)

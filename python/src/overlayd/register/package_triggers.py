@@ -24,6 +24,10 @@ BODIES = {
 }
 
 
+OLD = ("{0}, CASE typeof({1}) WHEN 'blob' THEN hex({1}) WHEN 'real' THEN CASE WHEN abs({1}) < 1e308"
+       " THEN json(printf('%!.17g', {1})) END ELSE {1} END")  # all digits of a double; no infinite one
+
+
 def quoted(name: str) -> str:
     """A name as SQL has it."""
     return '"' + name.replace('"', '""') + '"'
@@ -34,10 +38,16 @@ def text(value: str) -> str:
     return "'" + value.replace("'", "''") + "'"
 
 
+def near(search: str, layer: Layer, waits: bool) -> str:
+    """The condition of a search by boxes, and where waits that a change is pending."""
+    found = search.format(key=quoted(layer.key), index=quoted(layer.index()))
+    pending = f" OR t.{quoted(layer.key)} IN (SELECT fid FROM overlay_pending WHERE layer = {text(layer.name)})"
+    return found + pending * waits
+
+
 def triggers(layer: Layer, others: list[str]) -> dict[str, str]:
     """The triggers of a layer with some other columns, by their names, as they are to stand in the schema."""
-    old = ", ".join(f"{text(name)}, CASE typeof(OLD.{quoted(name)}) WHEN 'blob' THEN hex(OLD.{quoted(name)})"
-                    f" ELSE OLD.{quoted(name)} END" for name in others)
+    old = ", ".join(OLD.format(text(name), f"OLD.{quoted(name)}") for name in others)
     watched = dict.fromkeys([layer.geom, layer.key, *([layer.ident] if layer.ident else [])])
     changes = " OR ".join(f"OLD.{quoted(name)} IS NOT NEW.{quoted(name)}" for name in watched)
     words = {"layer": quoted(layer.name), "name": text(layer.name), "key": quoted(layer.key),

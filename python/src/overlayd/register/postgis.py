@@ -11,9 +11,10 @@ from typing import Any
 
 from . import postgis_texts as texts
 from . import statements
+from .blobs import fitted
 from .engines import Found, Row
 from .model import Layer, Refused
-from .package_triggers import quoted, text as spelled
+from .package_triggers import near, quoted, text as spelled
 
 PREFIX = "PG:"  # as GDAL has it
 WHOLE = ("smallint", "integer", "bigint")
@@ -51,6 +52,10 @@ class PostGis:
     def busy(self) -> tuple[type[Exception], ...]:
         """What is raised where others are in the way."""
         return (self.psycopg.extensions.TransactionRollbackError, self.psycopg.errors.LockNotAvailable)
+
+    @property
+    def unfit(self) -> tuple[type[Exception], ...]:
+        return (self.psycopg.IntegrityError, self.psycopg.DataError, self.psycopg.errors.DatatypeMismatch)
 
     def ask(self, text: str, *values: object) -> list[Row]:
         own = OTHERS.get(text, text)
@@ -95,6 +100,9 @@ class PostGis:
         for name, columns in {**statements.LISTED, **statements.OWN}.items():
             self.create(name, columns, is_listed=True)
         self.ask("ALTER TABLE overlay_layer ADD COLUMN place TEXT")
+        self.make_functions()
+
+    def make_functions(self) -> None:
         for one in texts.FUNCTIONS:
             self.ask(one.replace("{postgis}", quoted(self.postgis)))
 
@@ -157,8 +165,39 @@ class PostGis:
         shapes = [None if row[1] is None else bytes(row[1]) for row in rows]
         return Found([row[0] for row in rows], shapes, [row[2] for row in rows])
 
-    def features_near(self, layer: Layer) -> Found:
-        return self.features(layer, texts.NEAR.format(key=quoted(layer.key), index=quoted(layer.index())))
+    def features_near(self, layer: Layer, waits: bool = False) -> Found:
+        return self.features(layer, near(texts.NEAR, layer, waits))
+
+    @contextlib.contextmanager
+    def editing(self, who: str | None) -> Iterator[int]:
+        """Others that edit by themselves do not wait: what they break is found by a refresh."""
+        with self._transaction("BEGIN"):
+            self.ask("SELECT pg_advisory_xact_lock(hashtext('overlay rules'))")  # before anything is seen
+            self.ask("SELECT set_config('overlay.who', ?, true)", who or "")
+            yield int(self.ask("SELECT txid_current()")[0][0])
+
+    in_box = texts.IN_BOX
+
+    def place(self, layer: Layer) -> str:
+        return place_of(layer.name)
+
+    def columns(self, layer: Layer) -> list[str]:
+        found = self.ask(texts.COLUMNS, place_of(layer.name))
+        return [name for name, kind in found if name != layer.key and kind.rpartition(".")[2] != "geometry"]
+
+    def shape_out(self, column: str) -> str:
+        return f"ST_AsBinary(t.{column})"
+
+    def shape_read(self, value: Any) -> bytes | None:
+        return None if value is None else bytes(value)
+
+    def shape_in(self, layer: Layer, shape: bytes | None) -> tuple[str, object]:
+        ((kind, system),) = self.ask(texts.KIND, place_of(layer.name), layer.geom)
+        return f"ST_GeomFromWKB(?, {int(system or 0)})", None if shape is None else fitted(shape, kind)
+
+    def system(self, layer: Layer) -> str | None:
+        found = self.ask(texts.SYSTEM, place_of(layer.name), layer.geom)
+        return f"{found[0][0]}:{found[0][1]}" if found else None
 
     def second(self) -> PostGis:
         return PostGis(self.words)

@@ -23,7 +23,8 @@ BEGIN
  IF TG_OP <> 'DELETE' THEN EXECUTE texts INTO new_key, new_shape, new_ident USING NEW; END IF;
  INSERT INTO overlay_log (at, who, change, layer, fid, what, geom, old) VALUES (
   to_char(clock_timestamp() AT TIME ZONE 'UTC', 'YYYY-MM-DD"T"HH24:MI:SS.MS"Z"'),
-  session_user || '/' || current_setting('application_name'), txid_current(), layer, coalesce(old_key, new_key),
+  coalesce(nullif(current_setting('overlay.who', true), '') || ' by ', '') || session_user || '/'
+   || current_setting('application_name'), txid_current(), layer, coalesce(old_key, new_key),
   CASE WHEN TG_OP = 'UPDATE' AND old_key <> new_key THEN 'moved to ' || new_key ELSE lower(TG_OP) END,
   old_shape, old_row::text);
  IF TG_OP = 'UPDATE' AND (old_key, old_shape, old_ident) IS NOT DISTINCT FROM (new_key, new_shape, new_ident) THEN
@@ -66,3 +67,8 @@ INDEX = ("CREATE TABLE {index} (id BIGINT PRIMARY KEY, digest BYTEA, minx DOUBLE
          "CREATE INDEX ON {index} USING gist (box(point(minx, miny), point(maxx, maxy)))")
 NEAR = ("WHERE t.{key} IN (SELECT i.id FROM overlay_boxes q JOIN {index} i"
         " ON box(point(i.minx, i.miny), point(i.maxx, i.maxy)) && box(point(q.minx, q.miny), point(q.maxx, q.maxy)))")
+IN_BOX = "box(point(minx, miny), point(maxx, maxy)) && box(point(?, ?), point(?, ?))"
+TYPMOD = ("FROM pg_attribute a JOIN pg_type t ON t.oid = a.atttypid WHERE a.attrelid = ?::regclass AND a.attname = ?")
+KIND = f"SELECT coalesce(postgis_typmod_type(a.atttypmod), 'Geometry'), postgis_typmod_srid(a.atttypmod) {TYPMOD}"
+SYSTEM = ("SELECT s.auth_name, s.auth_srid FROM spatial_ref_sys s WHERE s.srid ="
+          f" (SELECT postgis_typmod_srid(a.atttypmod) {TYPMOD})")

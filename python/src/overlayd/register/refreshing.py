@@ -18,13 +18,15 @@ import numpy as np
 from ..geometry.flat_arrays import Numbers
 from . import statements
 from .answers import Program
-from .engines import Engine, Found, filled
+from .engines import NOTHING, Engine, Found, filled
 from .looking import look_through
-from .model import Kept, Kind, Layer, Refused
+from .model import Kept, Kind, Layer, Must, Refused, Rule
 from .registers import Register, Say, in_silence
 from .sides import (EMPTY, NO_BOXES, Row, Side, cell_rows, cells_touched, cores_of, pair_rows, side_of, together,
                     with_few_cells)
 from .taking import Problem
+from .violating import Violation, needed, violations
+from .violation_rows import affected, replaced
 
 TRIES = 100  # a refresh begins anew where another came between
 Hook = Callable[[], None]
@@ -43,12 +45,14 @@ class Work:
     factor: Fraction
     layers: dict[str, Layer]
     kept: list[Kept]
+    rules: list[Rule]
     pending: list[tuple[int, str, int]]
     changed: dict[str, Numbers] = field(default_factory=dict)  # keys of changed features, those that are gone too
     sides: dict[str, Side] = field(default_factory=dict)
     near: dict[str, Found] = field(default_factory=dict)
     cells: dict[str, Numbers] = field(default_factory=dict)
     rows: dict[str, list[Row]] = field(default_factory=dict)
+    violations: dict[int, list[Violation]] = field(default_factory=dict)  # by the numbers of rules
     problems: list[tuple[str, int, str, str | None]] = field(default_factory=list)
 
 
@@ -79,7 +83,7 @@ def read(register: Register, most: int | None) -> Work | None:
         pending = [(row[0], row[1], row[2]) for row in engine.ask(statements.PENDING)][:most]
         if not pending:
             return None
-        work = Work(state.version, schema, state.factor, register.layers(), register.kept(), pending)
+        work = Work(state.version, schema, state.factor, register.layers(), register.kept(), register.rules(), pending)
         for layer in work.layers.values():
             fids = sorted({fid for _, name, fid in pending if name == layer.name})
             if fids:
@@ -87,8 +91,7 @@ def read(register: Register, most: int | None) -> Work | None:
         for kept in work.kept:
             if kept.kind is Kind.DERIVE:
                 work.cells[kept.name] = cells_touched(kept, work.sides)
-        for layer in work.layers.values():
-            read_near(engine, work, layer)
+        read_all_near(engine, work)
     return work
 
 
@@ -131,29 +134,42 @@ def needed_near(work: Work, layer: Layer) -> Numbers:
             if name == layer.name and other in work.sides:
                 side = work.sides[other]
                 found.append(side.boxes()[side.changed()])
+    found += [needed(rule, layer.name, work.sides) for rule in work.rules]
     own: Numbers = np.unique(np.concatenate(found), axis=0).reshape(-1, 4)
     return own
 
 
-def read_near(engine: Engine, work: Work, layer: Layer) -> None:
-    """The features of a layer that have not changed, where they are needed."""
-    boxes = needed_near(work, layer)
+def read_all_near(engine: Engine, work: Work, waits: bool = False) -> None:
+    """The features that have not changed, where they are needed. waits: some changes may be unseen, and wait."""
+    for layer in work.layers.values():
+        read_near(engine, work, layer, needed_near(work, layer), waits)
+    covering = [rule for rule in work.rules if rule.must is Must.BE_COVERED and rule.b in work.sides]
+    for rule in covering:  # what else covers a feature that lost some of its cover
+        sides = {name: with_near(work, name) for name in rule.layers()}
+        read_near(engine, work, work.layers[rule.b or ""], needed(rule, rule.b or "", sides), waits)
+
+
+def read_near(engine: Engine, work: Work, layer: Layer, boxes: Numbers, waits: bool) -> None:
+    """The features of a layer near boxes that have not changed and were not read."""
     if len(boxes):
         engine.ask(statements.NO_BOXES)
         engine.many(statements.ADD_BOX, off_grid(boxes, work.factor).tolist())
-        near = engine.features_near(layer)
-        has_changed = {*work.changed.get(layer.name, np.zeros(0)).tolist()}
-        work.near[layer.name] = near.part([fid not in has_changed for fid in near.fids])
+        near, known = engine.features_near(layer, waits), work.near.get(layer.name, NOTHING)
+        own = {*work.changed.get(layer.name, np.zeros(0)).tolist(), *known.fids}
+        work.near[layer.name] = known.and_then(near.part([fid not in own for fid in near.fids]))
+
+
+def with_near(work: Work, name: str) -> Side:
+    """What has changed of a layer, and what is near."""
+    own, near = work.sides.get(name, EMPTY), work.near.get(name, NOTHING)
+    return together(own, side_of(near, work.factor, False)) if near.fids else own
 
 
 def take_shapes(work: Work, program: Program) -> None:
     """Leaves out what the program refuses of what has changed, and puts what is near beside it."""
     for name, side in work.sides.items():
         work.sides[name] = dataclasses.replace(side, taken=program.accepted(side.taken))
-    for name, near in work.near.items():
-        if near.fids:
-            own = side_of(near, work.factor, False)
-            work.sides[name] = together(work.sides[name], own) if name in work.sides else own
+    work.sides |= {name: with_near(work, name) for name in work.near}
 
 
 def make_rows(work: Work, program: Program) -> None:
@@ -168,6 +184,8 @@ def make_rows(work: Work, program: Program) -> None:
         else:
             made = [*pair_rows(kept, work.sides, program)]
         work.rows[kept.name] = [row for some in made for row in some]
+    for rule in work.rules:
+        work.violations[rule.number] = violations(rule, work.sides, program)
     for name, side in work.sides.items():
         work.problems += [(name, side.found.fids[place], what, None) for place, what in side.taken.told
                           if side.is_changed[place]]
@@ -181,6 +199,9 @@ def write(register: Register, work: Work) -> bool:
             return False
         for kept in work.kept:
             write_rows(engine, work, kept)
+        for rule in work.rules:
+            replaced(engine, rule, affected(engine, rule, work.sides, work.changed, work.factor),
+                     work.violations[rule.number])
         for name, fids in work.changed.items():
             write_seen(engine, work, work.layers[name], fids)
         engine.many(statements.ADD_PROBLEM, sorted(work.problems, key=str))

@@ -8,7 +8,7 @@ from fractions import Fraction
 
 from . import statements
 from .engines import Engine, filled
-from .model import FORM, Kept, Kind, Layer, Refused, State
+from .model import FORM, Kept, Kind, Layer, Must, Refused, Rule, State
 
 Say = Callable[[str], None]
 
@@ -43,6 +43,9 @@ class Register:
     def kept(self) -> list[Kept]:
         return [Kept(name, Kind(kind), *rest) for name, kind, *rest in self.engine.ask(statements.KEPT)]
 
+    def rules(self) -> list[Rule]:
+        return [Rule(number, Must(must), *rest) for number, must, *rest in self.engine.ask(statements.RULES)]
+
     def layer(self, name: str) -> Layer:
         """One of its layers."""
         own = self.layers()
@@ -57,6 +60,8 @@ class Register:
         self.engine.hold()
         with self.engine.writing():
             self.engine.begin()
+            for text in statements.INDEXES_OF_TABLES:
+                self.engine.ask(text)
             self.engine.ask(statements.BEGIN_STATE, FORM, str(factor))
             self.engine.ask(statements.SCHEMA_IS, self.engine.schema())
 
@@ -80,6 +85,9 @@ class Register:
             users = [one.name for one in self.kept() if name in one.layers()]
             if users:
                 raise Refused(f"{name} is needed by {', '.join(users)}: `overlay register unkeep` these first")
+            rules = [f"{one.number}: {one}" for one in self.rules() if name in one.layers()]
+            if rules:
+                raise Refused(f"{name} has rules ({'; '.join(rules)}): `overlay register unrule` these first")
             self.engine.disarm(layer)
             self.engine.drop(layer.index())
             for text in (statements.DROP_LAYER, statements.DROP_PENDING, statements.DROP_PROBLEMS):
@@ -113,9 +121,19 @@ class Register:
         """Brings tables of an earlier version over; whether there was something to do."""
         if not self.engine.is_register():
             raise Refused("no register here: `overlay register init` or `adopt` makes one")
-        if self.state().form != FORM:
+        if self.state().form >= FORM:
             self.need()
-        return False
+            return False
+        with self.own_change():
+            for name in ("overlay_rule", "overlay_violation"):
+                self.engine.create(name, statements.LISTED[name], is_listed=True)
+            for text in statements.INDEXES_OF_TABLES:
+                self.engine.ask(text)
+            self.engine.make_functions()
+            for layer in self.layers().values():
+                self.engine.arm(layer)
+            self.engine.ask(statements.SET_FORM, FORM)
+        return True
 
     def problems(self) -> list[tuple[str, int, str, str | None]]:
         """What is told of features: layer, key, what, and of which table of results alone."""

@@ -15,15 +15,12 @@ from ..geometry.flat_arrays import Numbers, owners
 from ..grid_pass.onto_grid import Noding, OnGrid, Rings, onto_grid
 from ..kernel.columns import Column
 from ..kernel.shapes import Shapes, column_of
-from .blobs import Box, blob_of, system_of
+from .blobs import GATHERED, MULTIPOLYGON, Box, blob_of, system_of
 from .engines import Found
 from .model import Layer
 from .package import GeoPackage
 from .package_triggers import quoted
 from .taking import NEAR, in_range, read_all, with_heights
-
-MULTIPOLYGON = 6
-GATHERED = struct.pack("<BII", 1, MULTIPOLYGON, 1)  # the head of a multipolygon of one polygon
 
 
 def snap(engine: GeoPackage, layers: list[Layer], factor: Fraction) -> dict[str, int]:

@@ -18,20 +18,22 @@ def layers_of(source: str) -> list[str]:
     return [file.GetLayer(number).GetName() for number in range(file.GetLayerCount())]
 
 
-def copy(source: str, target: str, names: list[str] | None = None) -> list[str]:
-    """Copies layers of a file into a GeoPackage, which is made where it is not there; what they are called there."""
+def copy(source: str, target: str, names: list[str] | None = None, called: str | None = None) -> list[str]:
+    """Copies layers of a file into a GeoPackage, which is made where it is not there; what they are called there: as in
+    the file, or where it has one alone, as is said."""
     gdal, _ = modules()
     there, made = layers_of(source), []
     for name in names or there:
         if name not in there:
             raise Refused(f"{source}: no layer {name}; there are {', '.join(there)}")
-        if Path(target).is_file() and name in layers_of(target):
-            raise Refused(f"{target} has a layer {name} already")
+        own = called or name
+        if Path(target).is_file() and own in layers_of(target):
+            raise Refused(f"{target} has a layer {own} already")
         options = gdal.VectorTranslateOptions(format="GPKG", accessMode="append" if Path(target).exists() else None,
-                                              layers=[name], layerName=name, geometryType="PROMOTE_TO_MULTI")
+                                              layers=[name], layerName=own, geometryType="PROMOTE_TO_MULTI")
         try:
             gdal.VectorTranslate(target, source, options=options)
         except RuntimeError as fault:
             raise Refused(f"{source}: {fault}") from None
-        made.append(name)
+        made.append(own)
     return made

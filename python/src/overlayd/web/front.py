@@ -8,7 +8,7 @@ import re
 import threading
 import traceback
 import urllib.parse
-from collections.abc import Callable, Iterable, Iterator, Mapping
+from collections.abc import Callable, Iterable, Iterator, Mapping, Sequence
 from contextlib import contextmanager
 from typing import Any
 
@@ -20,12 +20,16 @@ from ..program import NAME, Ended, Refused
 from ..store.feature_changes import Unwritten
 from . import schemas
 from .feature_store import FeatureStore, Unlike
-from .features_api import PAGE, FeaturesApi
+from .features_api import FeaturesApi
 from .joining import TooLarge
 from .layer_store import WAITING_MOST, Changed, LayerStore, NotDurable, Pending, Protected
 from .map_api import MapApi
 from .map_features import MapFeatures
+from .ogc_pages import PAGE, OgcPages
+from .opened_registers import Lost
 from .pages import FORM, Page, Problem, page, said_by, sent
+from .register_api import RegisterApi
+from .register_changes import RegisterChanges
 from .rescue import AGAIN, NotWritten
 from .systems import Systems, Unplaced
 from .usual import LEAFLET, LOOPBACK
@@ -36,7 +40,7 @@ SLOW_MOST, CHANGES_MOST = WAITING_MOST + 4, 4
 these questions have no polygons to wait for, and keep places of their own."""
 WORDS_MOST = 32
 DAY = 86400
-READING, CHANGING = ("GET", "HEAD", "OPTIONS"), ("POST", "PUT", "DELETE")
+READING, CHANGING = ("GET", "HEAD", "OPTIONS"), ("POST", "PUT", "PATCH", "DELETE")
 KINDS = {".js": "text/javascript", ".css": "text/css", ".png": "image/png"}
 HEADERS = {
     "X-Content-Type-Options": "nosniff", "Referrer-Policy": "no-referrer",
@@ -55,7 +59,7 @@ def part(form: str) -> type[BaseConverter]:
 
 
 PARTS = {"layer": part(schemas.NAME), "item": part(schemas.ID), "script": part(r"[a-z.-]+\.(?:js|css)"),
-         "picture": part(r"[a-z0-9-]+\.png")}
+         "picture": part(r"[a-z0-9-]+\.png"), "collection": part(r"[^/]{1,200}"), "number": part(r"[0-9]{1,18}")}
 
 
 def status_of(fault: Refused) -> int:
@@ -75,7 +79,7 @@ def refused(fault: Exception) -> Response:
     """What was refused, as a JSON object of code and description."""
     match fault:
         case Problem():
-            return refusal(fault.status, fault.status, str(fault), fault.headers)
+            return refusal(fault.status, fault.status, str(fault), fault.headers, **fault.more)
         case HTTPException():
             status = fault.code or 500
             headers = {name: value for name, value in fault.get_headers() if name != "Content-Type"}
@@ -92,6 +96,8 @@ def refused(fault: Exception) -> Response:
             return refusal(503, 503, str(fault), {"Retry-After": "1"})
         case NotWritten() | Unwritten():
             return refusal(503, 503, str(fault), {"Retry-After": f"{AGAIN:.0f}"})
+        case Lost():
+            return refusal(503, 503, f"the register does not answer: {fault}", {"Retry-After": f"{AGAIN:.0f}"})
         case Ended() | OSError() | TimeoutError():
             return refusal(503, 503, f"the store does not answer: {fault}")
     traceback.print_exception(fault)  # a fault of the front's own: it goes on, and the fault is reported where it runs
@@ -130,16 +136,29 @@ def file(folder: pathlib.Path, name: str, seconds: int | None = None) -> Respons
     return send_from_directory(folder, name, mimetype=KINDS[pathlib.Path(name).suffix], max_age=seconds)
 
 
-class Front:
-    """hosts: the names by which it is asked. base: the address under which a server before it passes questions on.
-    maps: the features of a map over the store's layers, where there are some. systems: those that it answers in, where
-    not only in the store's."""
+def of_store(store: LayerStore, hosts: Iterable[str] = LOOPBACK, base: str | None = None,
+             leaflet: pathlib.Path = LEAFLET, maps: FeatureStore | None = None,
+             systems: Systems | None = None) -> Front:
+    """The front over a store. maps: the features of a map over its layers, where there are some. systems: those that
+    it answers in, where not only in the store's."""
+    features = MapFeatures(maps, systems) if maps else FeaturesApi(store, systems)
+    owners = (features, MapApi(store, maps, systems), Files(leaflet))
+    return Front(owners, store.writable, hosts, base, maps.name if maps else "")
 
-    def __init__(
-        self, store: LayerStore, hosts: Iterable[str] = LOOPBACK, base: str | None = None,
-        leaflet: pathlib.Path = LEAFLET, maps: FeatureStore | None = None, systems: Systems | None = None,
-    ) -> None:
-        self.store = store
+
+def of_register(pages: RegisterApi, hosts: Iterable[str] = LOOPBACK, base: str | None = None,
+                leaflet: pathlib.Path = LEAFLET) -> Front:
+    """The front over a register."""
+    return Front((pages, RegisterChanges(pages), Files(leaflet)), pages.writable, hosts, base)
+
+
+class Front:
+    """owners: those whose methods answer. hosts: the names by which it is asked. base: the address under which a server
+    before it passes questions on. name: that of a map."""
+
+    def __init__(self, owners: Sequence[object], writable: bool, hosts: Iterable[str] = LOOPBACK,
+                 base: str | None = None, name: str = "") -> None:
+        self.owners, self.writable = tuple(owners), writable
         self.base = base.rstrip("/") if base else None
         parts = urllib.parse.urlsplit(base or "")
         self.base_host = parts.netloc.lower()
@@ -148,10 +167,11 @@ class Front:
         self.app = Flask(__name__, static_folder=None)
         self.app.url_map.merge_slashes = False
         self.app.url_map.converters.update(PARTS)
-        self.features = MapFeatures(maps, systems) if maps else FeaturesApi(store, systems)
-        for owner in (self.features, MapApi(store, maps, systems), Files(leaflet)):
-            for name, said in said_by(type(owner)).items():
-                self._add(said, getattr(owner, name), maps.name if maps else "")
+        for owner in owners:
+            if isinstance(owner, OgcPages):
+                owner.kinds = tuple(type(one) for one in owners)
+            for method, said in said_by(type(owner)).items():
+                self._add(said, getattr(owner, method), name)
         self.app.before_request(self._look)
         self.app.after_request(dressed)
         self.app.register_error_handler(Exception, refused)
@@ -218,7 +238,7 @@ class Front:
 
     def _other_method(self, method: str, known: Iterable[str]) -> Response:
         """The methods of a page: as the answer to OPTIONS, else beside the refusal of another one."""
-        may = (*READING, *CHANGING) if self.store.writable else READING
+        may = (*READING, *CHANGING) if self.writable else READING
         allowed = ", ".join(one for one in may if one == "OPTIONS" or one in known)
         if method != "OPTIONS":
             raise Problem(405, f"{method} is not for this page", Allow=allowed)
@@ -229,7 +249,7 @@ class Front:
         """Refuses what another site's page asks, and a change where none may be made."""
         site = request.headers.get("Sec-Fetch-Site", "").strip().lower()
         if method not in READING:
-            if not self.store.writable:
+            if not self.writable:
                 raise Problem(403, "it was started without --writable")
             origin, parts = request.headers.get("Origin", ""), urllib.parse.urlsplit(g.root)
             if site in ("cross-site", "same-site") or origin not in ("", f"{parts.scheme}://{parts.netloc}"):

@@ -4,16 +4,18 @@ and its answers."""
 from __future__ import annotations
 
 import re
+from collections.abc import Sequence
 
-from .features_api import FeaturesApi
-from .map_api import MapApi
-from .map_features import MapFeatures
 from .pages import GEOJSON, JSON, Page, Word, said_by
 from .schemas import ID, NAME, SCHEMAS, Described, Value, array, ref, shaped
 
 OF_ROUTE: dict[str, Value] = {
     "layer": {"name": "collectionId", "in": "path", "required": True, "description": "the name of a collection",
               "schema": {"type": "string", "pattern": NAME}},
+    "collection": {"name": "collectionId", "in": "path", "required": True, "description": "the name of a collection",
+                   "schema": {"type": "string"}},
+    "number": {"name": "featureId", "in": "path", "required": True, "schema": {"type": "integer", "minimum": 0},
+               "description": "the number of a feature, a row, a change or a violation"},
     "item": {"name": "featureId", "in": "path", "required": True, "schema": {"type": "string", "pattern": ID},
              "description": "the id of an item; of a layer its number at one revision"},
 }
@@ -59,10 +61,11 @@ def schemas_of(described: Described | None) -> dict[str, Value]:
     }
 
 
-def document(title: str, root: str, writable: bool, described: Described | None = None) -> Value:
-    """The description: of pages that change something where that may be done, of a map's where there is one."""
+def document(title: str, root: str, writable: bool, described: Described | None, kinds: Sequence[type]) -> Value:
+    """The description of the pages of some classes: of those that change something where that may be done, of a map's
+    where there is one."""
     paths: dict[str, dict[str, Value]] = {}
-    for kind in (MapFeatures if described else FeaturesApi, MapApi):
+    for kind in kinds:
         for page in said_by(kind).values():
             if page.name and (writable or not page.is_change):
                 path = path_of(page, described.name if described else "")

@@ -25,11 +25,11 @@ Answers = TypeVar("Answers", bound=Callable[..., Response])
 
 
 class Problem(Exception):
-    """A refusal by the web's own rules: the status, and what is reported."""
+    """A refusal by the web's own rules: the status, and what is reported; more stands beside it in the answer."""
 
     def __init__(self, status: int, text: str, **headers: str) -> None:
         super().__init__(text)
-        self.status, self.headers = status, headers
+        self.status, self.headers, self.more = status, headers, dict[str, Any]()
 
 
 class Word(NamedTuple):
@@ -158,10 +158,10 @@ def link(href: str, rel: str, kind: str = JSON, title: str | None = None) -> dic
     return {**made, "title": title} if title else made
 
 
-def content() -> bytes:
-    """The bytes of the body, said to be JSON; one that is too large is refused (413), unless waitress did. Werkzeug
-    would bound forms alone, and take a length that it cannot read for none."""
-    if request.mimetype not in (JSON, GEOJSON):
+def content(*kinds: str) -> bytes:
+    """The bytes of the body, said to be JSON or one of kinds; one that is too large is refused (413), unless waitress
+    did. Werkzeug would bound forms alone, and take a length that it cannot read for none."""
+    if request.mimetype not in (JSON, GEOJSON, *kinds):
         raise Problem(415, f"{JSON} is wanted")
     length = request.environ.get("CONTENT_LENGTH") or ""
     if not re.fullmatch(r"[0-9]{1,18}", length):

@@ -4,9 +4,11 @@
 from __future__ import annotations
 
 import contextlib
+import ctypes
 import multiprocessing
 import os
 import signal
+import subprocess
 import sys
 import threading
 import time
@@ -16,19 +18,23 @@ from .. import ending as endings
 from ..ending import Unusable
 from ..grid import scale as scales
 from ..program import MOST_SESSIONS, Ended, Refused, Server
-from ..program_files import found_program
+from ..program_files import FEATURES, OVERLAY, found_program
+from ..register.model import Refused as RegisterRefused
 from ..store import features
 from ..words import Words
 from .by_waitress import serve
 from .feature_store import FeatureStore, Unlike
-from .front import Front
+from .front import of_register, of_store
 from .layer_store import JOINING, LayerStore, number_in_file
 from .map_scale import MapScale
+from .opened_registers import Lost, OpenedRegisters
+from .register_api import RegisterApi, scale_of as scale_of_register
 from .rescue import Rescue
 from .scratch import Scratch
 from .serving import Unheard
 from .systems import Systems, Unprojected, by_pyproj
 
+PR_SET_PDEATHSIG = 1  # of prctl(2)
 PATIENCE = 300.0
 """How many seconds a session waits for a reply before it is late."""
 
@@ -116,6 +122,44 @@ def watch_sessions(_: Server, __: Scratch, store: LayerStore, ending: Ending) ->
 
 def run(words: Words, hosts: set[str]) -> int:
     """Serves what the words of the command say, under the names of hosts, and gives the status at its end."""
+    return run_register(words, hosts) if words.register else run_store(words, hosts)
+
+
+def run_register(words: Words, hosts: set[str]) -> int:
+    """Serves a register, whose tables another process keeps current."""
+    try:
+        registers = OpenedRegisters(words.register, words.program or found_program(FEATURES))
+        scale = scale_of_register(registers)
+        pages = RegisterApi(registers, systems_of(words, scale), words.writable, words.who)
+        with contextlib.suppress(SystemExit, KeyboardInterrupt), refreshing(words.register, words.program):
+            signal.signal(signal.SIGTERM, lambda *_: sys.exit(0))
+            serve(of_register(pages, hosts, words.base, words.leaflet), words.host, words.port)
+    except (Unheard, Unusable, Unprojected, RegisterRefused, Lost) as fault:
+        print(f"{words.register}: {fault}", file=sys.stderr)
+        return 1
+    return 0
+
+
+def end_with_parent() -> None:
+    """Has the system end this process as soon as the one that has begun it is gone, even by a kill."""
+    ctypes.CDLL(None).prctl(PR_SET_PDEATHSIG, signal.SIGTERM, 0, 0, 0)
+
+
+@contextlib.contextmanager
+def refreshing(register: str, program: str | None) -> Iterator[None]:
+    """A process that keeps a register current, and is ended with this one."""
+    options = ["--program", program] if program else []
+    watch = subprocess.Popen([*OVERLAY, "register", "watch", register, *options],
+                             stdout=subprocess.DEVNULL, preexec_fn=end_with_parent)
+    try:
+        yield
+    finally:
+        watch.terminate()
+        watch.wait()
+
+
+def run_store(words: Words, hosts: set[str]) -> int:
+    """Serves a store."""
     ending = Ending()
     for number in (signal.SIGTERM, signal.SIGALRM):
         signal.signal(number, ending.on_signal)
@@ -126,7 +170,7 @@ def run(words: Words, hosts: set[str]) -> int:
                 with contextlib.suppress(SystemExit, KeyboardInterrupt):
                     maps = features_of(words, store)
                     systems = systems_of(words, store.scale)
-                    front = Front(store, hosts, words.base, words.leaflet, maps, systems)
+                    front = of_store(store, hosts, words.base, words.leaflet, maps, systems)
                     serve(front, words.host, words.port)
             finally:  # a fault goes on, and what ends because of it does not end the front
                 for number in (signal.SIGTERM, signal.SIGALRM):
