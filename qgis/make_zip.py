@@ -9,17 +9,19 @@ package, or of another plugin, is none of its business in QGIS's one interpreter
 
 from __future__ import annotations
 
+import os
 import pathlib
 import shutil
 import sys
 import tempfile
+import time
 import zipfile
 
 HERE = pathlib.Path(__file__).resolve().parent
 PACKAGE = HERE.parent / "python" / "src" / "overlayd"
 PLUGIN, PROGRAM, MACHINE = "exactoverlay", "overlay_features", "linux-x86_64"
 PARTS = ("__init__.py", "ending.py", "progress.py", "program.py", "program_files.py", "geometry", "grid", "grid_pass",
-         "kernel")
+         "kernel", "register")
 OF_API = ("__init__.py", "asking.py", "cells.py", "pieces.py")
 NOT = shutil.ignore_patterns("__pycache__", "ext", "bin")
 
@@ -51,9 +53,12 @@ def main(out: str, program: str | None = None) -> None:
         return
     with tempfile.TemporaryDirectory() as folder:
         fill(pathlib.Path(folder, PLUGIN), program)
+        seconds = int(os.environ.get("SOURCE_DATE_EPOCH", time.time()))
         with zipfile.ZipFile(target, "w", zipfile.ZIP_DEFLATED) as file:
             for path in sorted(pathlib.Path(folder).rglob("*")):
                 if path.is_file():
+                    os.utime(path, (seconds, seconds))
+                    path.chmod(0o644)
                     file.write(path, path.relative_to(folder))
 
 

@@ -20,16 +20,9 @@ FIELDS = ("shared_area", DOUBLE), ("area_bound", DOUBLE), ("width", DOUBLE)
 class Check(Exact):
     """exactoverlay:check."""
 
-    def name(self) -> str:
-        return "check"
-
-    def displayName(self) -> str:
-        return "Check for overlaps and gaps"
-
-    def shortHelpString(self) -> str:
-        return ("Where features of one layer lie on each other, and the places that features enclose and none covers, "
-                "each with its area and how wide it is. Slivers of a grid unit are in the data; none is added."
-                + GRID_HELP)
+    NAME, TITLE = "check", "Check for overlaps and gaps"
+    HELP = ("Where features of one layer lie on each other, and the places that features enclose and none covers, "
+            "each with its area and how wide it is. Slivers of a grid unit are in the data; none is added." + GRID_HELP)
 
     def initAlgorithm(self, config: Any = None) -> None:
         self.add_layer(INPUT, "Layer")

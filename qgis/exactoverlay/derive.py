@@ -21,16 +21,10 @@ QUOTED = re.compile(r'"([^"]+)"')
 class Derive(Exact):
     """exactoverlay:derive."""
 
-    def name(self) -> str:
-        return "derive"
-
-    def displayName(self) -> str:
-        return "Derive a region by an expression"
-
-    def shortHelpString(self) -> str:
-        return ("An expression over layers by their names, as (flood | slide) - parks, or by A, B, C.. in the order "
-                "given: & is what both have (it binds tightest), | what either has, - what the left one has alone, ^ "
-                "what one of both has. Other names than letters, digits and _ stand in double quotes." + GRID_HELP)
+    NAME, TITLE = "derive", "Derive a region by an expression"
+    HELP = ("An expression over layers by their names, as (flood | slide) - parks, or by A, B, C.. in the order "
+            "given: & is what both have (it binds tightest), | what either has, - what the left one has alone, ^ "
+            "what one of both has. Other names than letters, digits and _ stand in double quotes." + GRID_HELP)
 
     def initAlgorithm(self, config: Any = None) -> None:
         self.addParameter(QgsProcessingParameterMultipleLayers(LAYERS, "Layers", QgsProcessing.TypeVectorPolygon))

@@ -15,9 +15,10 @@ from qgis.PyQt.QtCore import QVariant
 
 from . import finding, reading
 from .ext.overlayd.api.asking import NoAnswer, grid_of, refusals_told
+from .ext.overlayd.grid_pass.default_grid import Unit
 from .ext.overlayd.kernel import Ask, Cancelled, MapFault, Wants
 from .ext.overlayd.kernel.running import ProgramEnded
-from .running import Answer, answered
+from .running import Answer, GoesOn, answered
 
 STYLES = pathlib.Path(__file__).with_name("styles")
 GRID_HELP = (" The grid is in units of the layers, as 0.001. Empty: the digits that all coordinates have already, else "
@@ -41,12 +42,24 @@ class Styled(QgsProcessingLayerPostProcessorInterface):
 
 
 class Exact(QgsProcessingAlgorithm):
-    """An algorithm of this provider."""
+    """An algorithm of this provider: what it is called, and what it does."""
 
+    NAME = TITLE = HELP = ""
     GRID = "GRID"
+    FAULTS: tuple[type[Exception], ...] = (ValueError,)
+    CANCELLED = "cancelled; nothing is written"
 
     def createInstance(self) -> Any:
         return type(self)()
+
+    def name(self) -> str:
+        return self.NAME
+
+    def displayName(self) -> str:
+        return self.TITLE
+
+    def shortHelpString(self) -> str:
+        return self.HELP
 
     def canExecute(self) -> tuple[bool, str]:
         try:
@@ -88,24 +101,34 @@ class Exact(QgsProcessingAlgorithm):
               question: Callable[[Ask], Answer]) -> Answer:
         """The answer to a question of layers; what cannot be answered is said in words of these."""
         size = self.parameterAsString(parameters, self.GRID, context).strip() or None
+        if reading.unit_of(crs) is Unit.DEGREE:
+            feedback.pushWarning("areas are in square degrees: for square metres reproject the layer first")
+
+        def asked(path: str, goes_on: GoesOn) -> Answer:
+            return question(Ask(path, Wants.OUTLINES, grid_of(size, reading.unit_of(crs)), goes_on))
+
         try:
-            path, place = finding.program()  # qgis_process does not ask canExecute
-            feedback.pushInfo(f"the program is {path}, by {place}")
-            grid = grid_of(size, reading.unit_of(crs))
-            with refusals_told(self.displayName()):
-                return answered(lambda goes_on: question(Ask(path, Wants.OUTLINES, grid, goes_on)), feedback)
+            return self.done(feedback, asked)
         except MapFault as fault:
             would_do = "" if fault.grid is None else f"; a grid of {float(fault.grid):g} would do"
             told = f"{reading.named(layers, fault.map, fault.feature)}: {fault.why}{would_do}"
             raise QgsProcessingException(told) from fault
-        except (ValueError, finding.NoProgram, NoAnswer, ProgramEnded) as fault:
+
+    def done(self, feedback: Any, work: Callable[[str, GoesOn], Answer]) -> Answer:
+        """What work gives that asks the program; why it cannot be done is said as QGIS says it."""
+        try:
+            path, place = finding.program()  # qgis_process does not ask canExecute
+            feedback.pushInfo(f"the program is {path}, by {place}")
+            with refusals_told(self.displayName()):
+                return answered(lambda goes_on: work(path, goes_on), feedback)
+        except (*self.FAULTS, finding.NoProgram, NoAnswer, ProgramEnded) as fault:
             raise QgsProcessingException(str(fault)) from fault
 
     def processAlgorithm(self, parameters: Any, context: Any, feedback: Any) -> dict[str, Any]:
         try:
             return self.answer(parameters, context, feedback)
         except Cancelled:
-            feedback.pushInfo("cancelled; nothing is written")
+            feedback.pushInfo(self.CANCELLED)
             return {}
 
     def answer(self, parameters: Any, context: Any, feedback: Any) -> dict[str, Any]:

@@ -19,16 +19,10 @@ FIELDS = ("exact_area", DOUBLE), ("area_bound", DOUBLE), ("width", DOUBLE), ("pi
 class Pieces(TwoLayers):
     """exactoverlay:pieces."""
 
-    def name(self) -> str:
-        return "pieces"
-
-    def displayName(self) -> str:
-        return "Pieces (intersection, union, difference)"
-
-    def shortHelpString(self) -> str:
-        return ("The pieces of two layers with the fields of both, the area of each and by how much it may be off, how "
-                "wide it is, and whose it is: of both, of the input alone, or of the overlay alone. Insides are "
-                "even-odd over the rings of a feature, so outlines that cross themselves need no repair." + GRID_HELP)
+    NAME, TITLE = "pieces", "Pieces (intersection, union, difference)"
+    HELP = ("The pieces of two layers with the fields of both, the area of each and by how much it may be off, how "
+            "wide it is, and whose it is: of both, of the input alone, or of the overlay alone. Insides are "
+            "even-odd over the rings of a feature, so outlines that cross themselves need no repair." + GRID_HELP)
 
     def initAlgorithm(self, config: Any = None) -> None:
         self.add_layers()

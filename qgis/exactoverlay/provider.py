@@ -13,6 +13,7 @@ from .derive import Derive
 from .finding import SETTING
 from .pairs import Pairs
 from .pieces import Pieces
+from .register import REGISTER
 
 ICON = str(pathlib.Path(__file__).with_name("icon.svg"))
 
@@ -40,5 +41,5 @@ class Provider(QgsProcessingProvider):
         return True
 
     def loadAlgorithms(self) -> None:
-        for algorithm in (Pairs, Pieces, Check, Derive):
+        for algorithm in (Pairs, Pieces, Check, Derive, *REGISTER):
             self.addAlgorithm(algorithm())

@@ -2,6 +2,8 @@
 
 from __future__ import annotations
 
+import threading
+import time
 from collections.abc import Sequence
 from typing import Any
 
@@ -33,3 +35,18 @@ def wave(corners: int, shift: int) -> str:
     """A polygon with a jagged top."""
     top = [f"{place} {100 + (place % 7) * 11 + shift}" for place in range(corners)]
     return f"POLYGON (({', '.join(top)}, {corners} 0, 0 0, {top[0]}))"
+
+
+def cancelled_after(seconds: float, name: str, words: dict[str, Any]) -> float:
+    """How many seconds a run goes on once it is cancelled; it is long enough to be."""
+    import processing
+    from qgis.core import QgsProcessingFeedback
+
+    feedback, at = QgsProcessingFeedback(), list[float]()
+    timer = threading.Timer(seconds, lambda: [at.append(time.monotonic()), feedback.cancel()])
+    timer.start()
+    processing.run(f"exactoverlay:{name}", words, feedback=feedback)
+    ended = time.monotonic()
+    timer.cancel()
+    assert at, "it had ended before"
+    return ended - at[0]

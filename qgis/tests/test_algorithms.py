@@ -3,13 +3,11 @@
 from __future__ import annotations
 
 import pathlib
-import threading
-import time
 from typing import Any
 
 import pytest
 
-from made import BOW, SQUARE, layer, run, wave
+from made import BOW, SQUARE, cancelled_after, layer, run, wave
 
 
 def test_pairs_are_those_of_the_page(qgis: Any, maps: pathlib.Path) -> None:
@@ -118,15 +116,6 @@ def test_what_cannot_be_done_is_said(qgis: Any, maps: pathlib.Path) -> None:
 
 
 def test_a_run_ends_soon_after_it_is_cancelled(qgis: Any) -> None:
-    import processing
-    from qgis.core import QgsProcessingFeedback
-
     first, second = (layer([wave(2000, place + shift) for place in range(25)]) for shift in (0, 3))
-    feedback = QgsProcessingFeedback()
-    timer = threading.Timer(1.0, feedback.cancel)
-    timer.start()
     words = {"INPUT": first, "OVERLAY": second, "HOW": 1, "OUTPUT": "memory:"}
-    processing.run("exactoverlay:pieces", words, feedback=feedback)
-    timer.join()
-    began = time.monotonic()
-    assert feedback.isCanceled() and time.monotonic() - began < 2
+    assert cancelled_after(1, "pieces", words) < 2

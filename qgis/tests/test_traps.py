@@ -47,14 +47,14 @@ def test_a_program_without_the_executable_bit_runs(qgis: Any, plugins: pathlib.P
 def test_a_run_looks_for_the_program_by_itself(qgis: Any, monkeypatch: pytest.MonkeyPatch) -> None:
     """qgis_process does not ask canExecute."""
     from exactoverlay import finding
-    from qgis.core import QgsApplication, QgsProcessingException
+    from qgis.core import QgsApplication, QgsCoordinateReferenceSystem, QgsProcessingException
 
     monkeypatch.setattr(finding, "candidates", lambda: iter([("the setting", "/none/overlay_features")]))
     can, told = QgsApplication.processingRegistry().algorithmById("exactoverlay:pairs").canExecute()
     assert not can and told == "the setting names /none/overlay_features, and no program is there"
     with pytest.raises(QgsProcessingException, match="no program is there"):
         QgsApplication.processingRegistry().algorithmById("exactoverlay:pairs").create().asked(
-            {}, _context(), None, None, [], lambda ask: None)
+            {}, _context(), None, QgsCoordinateReferenceSystem(), [], lambda ask: None)
     monkeypatch.setattr(finding, "candidates", lambda: iter([("PATH", None)]))
     with pytest.raises(finding.NoProgram, match="there is no program overlay_features for linux-x86_64"):
         finding.program()
