@@ -54,7 +54,8 @@ def audit(register: Register, program: Program, part: int = 1, draw: random.Rand
         need_layers(register)
         kept = register.kept()
         rules = register.rules() if part <= 1 else []
-        names = sorted({name for one in [*kept, *rules] for name in one.layers()})
+        of_kept, of_rules = (one.layers() for one in kept), (one.layers() for one in rules)
+        names = sorted({name for layers in (*of_kept, *of_rules) for name in layers})
         found = {name: engine.features(register.layer(name)) for name in names}
         have = {one.name: rows_in(register, one) for one in kept}
         broken = {rule.number: [one.violation for one in listed(engine, " WHERE rule = ?", rule.number)]
