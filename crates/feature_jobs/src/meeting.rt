@@ -20,7 +20,7 @@ pub(crate) enum Meeting {
     SecondInside,
     /// Their boundaries have a point in common.
     Met,
-    /// Nothing.
+    /// They do not say which of these it is.
     Unknown,
 }
 
@@ -180,7 +180,8 @@ fn located(rings: &Rings, p: FarPoint) -> Option<Spot> {
     )
 }
 
-/// Where the first points of all rings lie against others, if that is the same for all; none where there are many rings.
+/// Where the first points of all rings lie against others, if that is the same for all; none where it is not, or where
+/// that takes many looks.
 fn common_spot(rings: &Rings, others: &Rings) -> Option<Spot> {
     let (counts, points) = rings.lent();
     if counts.len().saturating_mul(size(others)) > LOOKS_MAX {
@@ -208,8 +209,9 @@ fn unmet(a: &Rings, b: &Rings) -> Meeting {
     }
 }
 
-/// A feature by a core of it and another, of which no step is near the core: it has all of the core or nothing of it, and
-/// where the core is all that the first feature has, then that. `inside` says what that is.
+/// A feature of which no step is near a core, against another one, both of whose boxes have that core in common: it has
+/// all of the core or nothing of it. Where it has all of it, and the core holds all of the other one (`is_all`), that
+/// one is inside: `inside` says which it is.
 fn by_corner(rings: &Rings, core: &Core, is_all: bool, inside: Meeting) -> Meeting {
     let corner = FarPoint {
         x: core.low_x,

@@ -146,8 +146,8 @@ pub(crate) struct Both<'a> {
     pub found: &'a Found,
 }
 
-/// Whether an area is less than another by more than both may be off; none where that is not known. What is less is part of
-/// the other, so areas that are exact and not apart are of the same.
+/// Whether an area is less than another by more than both may be off; none where that is not known. The first is that of a
+/// part of the second: so where both are exact and equal, the part is all of it.
 fn is_less(less: &Found, whole: &Found) -> Option<bool> {
     let off = less.bound.saturating_add(whole.bound);
     if less.twice.saturating_add(off) < whole.twice {
