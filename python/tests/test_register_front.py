@@ -183,12 +183,13 @@ def test_a_transaction_is_one_change_and_is_undone_whole(place: Place) -> None:
     told = ask(client, "/transaction", "POST", {"changes": changes})
     assert told.status == 200
     assert [(one["collection"], one["id"], one["etag"] is None) for one in told.value["features"]] == [
-        ("parcels", 1, False), ("parcels", 7, False), ("parcels", 6, True)]
+        ("parcels", 1, False), ("parcels", 7, False), ("parcels", 6, True),
+        ("parcels", 4, False), ("zones", 1, False)]  # these have the new corners on their borders
     assert ask(client, "/transaction", "POST", {"changes": changes}).status == 409  # it is another one now
     number = told.value["change"]
     log = client.get("/collections/parcels/items/1/history")["changes"]
     assert (log[0]["change"], log[0]["what"]) == (number, "update")
-    assert len([one for one in client.get("/changes")["changes"] if one["change"] == number]) == 3
+    assert len([one for one in client.get("/changes")["changes"] if one["change"] == number]) == 5
     assert client.change(f"/changes/{number}/undo", "POST")["change"] > number
     assert parcels(own) == before
     assert client.ask(f"/changes/{number}/undo", "POST").status == 409

@@ -8,6 +8,7 @@ from pathlib import Path
 
 import pytest
 
+from overlayd.register.blobs import bounds
 from overlayd.register.lasting import lasting
 from overlayd.register.model import Must, Refused
 from overlayd.register.package import GeoPackage
@@ -17,7 +18,8 @@ from overlayd.register.tables import Table, Unknown
 from overlayd.register.transacting import Breaks, Change, Done, Stale, Unfit, What, transact, undo
 
 from . import register_works as works
-from .register_works import Land, land
+from . import slabs
+from .register_works import Land, features_in, land
 from .test_register_rules import ALL_RULES, check_rules, found as listed_of
 
 pytestmark = pytest.mark.features
@@ -59,9 +61,9 @@ def put(fid: int, new: bytes) -> Change:
     return Change(What.UPDATE, "parcels", fid, new)
 
 
-def parcels(own: Land) -> dict[int, tuple[bytes | None, str | None]]:
-    """All parcels by their keys."""
-    table = Table(own.register.engine, own.register.layer("parcels"))
+def parcels(own: Land, name: str = "parcels") -> dict[int, tuple[bytes | None, str | None]]:
+    """All parcels by their keys, or all zones."""
+    table = Table(own.register.engine, own.register.layer(name))
     return {item.fid: (item.shape, item.values["nr"]) for item in table.page(0, 1000)}
 
 
@@ -78,20 +80,47 @@ WORKS = {
 @pytest.mark.parametrize("name", WORKS)
 def test_a_work_of_an_office_is_one_change(own: Land, name: str) -> None:
     """Each breaks a rule by any of its changes alone, and none in the end; so it is taken, and taken back whole."""
-    before, changes = parcels(own), WORKS[name]
+    before, zones, changes = parcels(own), parcels(own, "zones"), WORKS[name]
     for first in changes:
         with pytest.raises(Breaks):
             told(own, first)
     assert parcels(own) == before
     for order in (changes, changes[::-1]):
         done = told(own, *order)
-        rows = own.ask("SELECT who, count(*) FROM overlay_log WHERE change = ? GROUP BY who", done.number)
-        assert rows == [("anna", len(changes))]
-        assert parcels(own) != before
+        others = {*before.items()} ^ {*parcels(own).items()}, {*zones.items()} ^ {*parcels(own, "zones").items()}
+        rows = own.ask("SELECT who, layer, fid FROM overlay_log WHERE change = ?", done.number)
+        assert {*rows} == {("anna", layer, fid) for layer, some in zip(("parcels", "zones"), others) for fid, _ in some}
+        assert len(rows) == len(done.features) >= len(changes)
         undo(own.register, own.program, done.number, "bert")
-        assert parcels(own) == before
+        assert (parcels(own), parcels(own, "zones")) == (before, zones)
     own.refresh()
     assert own.ask("SELECT count(*) FROM overlay_violation") == [(0,)]
+
+
+def test_a_corner_on_a_slanted_border_is_taken_into_it(own: Land) -> None:
+    """A split whose corner no whole point of the grid has exactly: without it in the neighbour's border a sliver is
+    left, by fractions. The neighbour is part of the change, its other steps stay as they are, and nothing is left to
+    take in."""
+    slanted = put(1, shape((0, 0), (10, 0), (7, 10), (0, 10))), put(2, shape((10, 0), (20, 0), (20, 10), (7, 10)))
+    told(own, *slanted)
+    at = (10 - 3 * 0.3337, 3.337)  # on the border, but for the rounding of doubles
+    lower, upper = shape((0, 0), (10, 0), at, (0, 4)), shape((0, 4), at, (7, 10), (0, 10))
+    sides = features_in(own.path, "parcels")
+    done = told(own, put(1, lower), Change(What.INSERT, "parcels", None, upper, {"nr": "p1b"}))
+    new = features_in(own.path, "parcels")
+    assert [(name, fid) for name, fid, _ in done.features][2:] == [("parcels", 2), ("zones", 1)]
+    corner = (works.whole(works.EAST + at[0]), works.whole(works.NORTH + at[1]))
+    assert corner[0] * 10 + (corner[1] - works.NORTH * 1000) * 3 != (works.EAST + 10) * 10_000  # beside the line
+    for fid, names in ((2, {corner}), (1, {corner})):
+        assert {*new[fid][0]} - {*sides[fid][0]} >= names
+    assert slabs.area([[ring for one in new.values() for ring in one]], lambda states: states[0]) == \
+        sum(slabs.area([one], lambda states: states[0]) for one in new.values()) == 600 * 1000**2
+    other = told(own, Change(What.UPDATE, "parcels", 2, parcels(own)[2][0], {"nr": "again"}))
+    assert [(name, fid) for name, fid, _ in other.features] == [("parcels", 2)]
+    assert features_in(own.path, "parcels") == new
+    for number in (other.number, done.number):
+        undo(own.register, own.program, number)
+    assert features_in(own.path, "parcels") == sides
 
 
 def test_what_breaks_a_rule_is_told_with_pairs_areas_and_outlines(own: Land) -> None:
@@ -164,6 +193,19 @@ def test_a_change_is_not_undone_over_a_later_one(own: Land) -> None:
     undo(own.register, own.program, first.number)  # all is again as it has left it
     with pytest.raises(Unknown, match="no change in the log"):
         undo(own.register, own.program, 999)
+
+
+def test_corners_that_a_later_change_has_taken_into_a_neighbour_hold_up_no_undo(own: Land) -> None:
+    before, split = parcels(own), WORKS["a parcel is split"]
+    first = told(own, *split)
+    later = told(own, put(6, shape((20, 10), (30, 10), (30, 16), (30, 20), (20, 20))))  # the zone has another corner
+    undo(own.register, own.program, first.number)
+    assert {fid: one for fid, one in parcels(own).items() if fid != 6} == \
+        {fid: one for fid, one in before.items() if fid != 6}
+    drop_rule(own.register, 3)
+    told(own, Change(What.UPDATE, "zones", 1, box(0, 0, 30, 22)))
+    undo(own.register, own.program, later.number)
+    assert parcels(own) == before and bounds(parcels(own, "zones")[1][0] or b"") == bounds(box(0, 0, 30, 22))
 
 
 def test_an_edit_made_elsewhere_is_a_change_of_one_row(own: Land) -> None:

@@ -7,6 +7,7 @@ two chains cross whose steps did not. With wide pixels neither holds: chains mov
 
 from __future__ import annotations
 
+from collections.abc import Callable
 from dataclasses import dataclass
 
 import numpy as np
@@ -15,6 +16,10 @@ from ..geometry.flat_arrays import Numbers, firsts
 from .pixels import Hits, Hot, candidates, meets
 from .places import HALF, UNIT, whole
 from .steps import Bends, Points, Steps
+
+
+Choice = Callable[[Hits], Numbers]
+"""Which of some hits count."""
 
 
 @dataclass(frozen=True)
@@ -28,10 +33,18 @@ class Chains:
         return len(self.step)
 
 
-def chains(steps: Steps, bent: Bends, hot: Hot | None) -> Chains:
+def every(hits: Hits) -> Numbers:
+    """All of them."""
+    return np.ones(len(hits.step), bool)
+
+
+def chains(steps: Steps, bent: Bends, hot: Hot | None, chosen: Choice = every) -> Chains:
     """The chains of steps: where hot is None through their bends alone."""
     own = Hits(bent.step, bent.at, np.full(len(bent.step), HALF))
-    hits = inner(steps, own if hot is None else with_bends(found(steps, hot), bent))
+    if hot is not None:
+        met = found(steps, hot)
+        own = with_bends(met.part(chosen(met)), bent)
+    hits = inner(steps, own)
     wide = bool((hits.half != HALF).any())
     order = np.lexsort((entering(steps, hits), hits.step)) if wide else by_centres(steps, hits)
     step, x, y = hits.step[order], hits.at.x[order], hits.at.y[order]
@@ -64,7 +77,7 @@ def inner(steps: Steps, hits: Hits) -> Hits:
     x, y, step = hits.at.x, hits.at.y, hits.step
     ends = (x == whole(steps.ax)[step]) & (y == whole(steps.ay)[step])
     ends |= (x == whole(steps.bx)[step]) & (y == whole(steps.by)[step])
-    return Hits(step[~ends], Points(x[~ends], y[~ends]), hits.half[~ends])
+    return hits.part(~ends)
 
 
 def by_centres(steps: Steps, hits: Hits) -> Numbers:

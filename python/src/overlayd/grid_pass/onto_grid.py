@@ -16,7 +16,7 @@ from fractions import Fraction
 import numpy as np
 
 from ..geometry.flat_arrays import Numbers, after_of
-from .chains import chains, inner
+from .chains import Choice, chains, every, inner
 from .pixels import Hits, Hot, hot_of
 from .places import UNIT, BeyondRange, places, whole
 from .rings import WholeRings, joined, live, put_in, without_spikes
@@ -127,9 +127,9 @@ def collapsed(placed: Placed, rings: WholeRings) -> Numbers:
     return np.flatnonzero((rings.sizes == 0) & (placed.sizes > 0))
 
 
-def snapped(placed: Placed, hot: Hot | None) -> OnGrid:
+def snapped(placed: Placed, hot: Hot | None, chosen: Choice = every) -> OnGrid:
     """One map, or a part of one, with the hot points of all: where there are none, as rounding and bends leave it."""
-    found = chains(placed.steps, placed.bent, hot)
+    found = chains(placed.steps, placed.bent, hot, chosen)
     rings = put_in(placed.x, placed.y, placed.sizes, placed.steps, found)
     rings = live(rings if hot is None else without_spikes(rings))
     own = inner(placed.steps, Hits(placed.bent.step, placed.bent.at, placed.bent.step))

@@ -38,6 +38,10 @@ class Hits:
     at: Points
     half: Numbers
 
+    def part(self, keeps: Numbers) -> Hits:
+        """Some of them."""
+        return Hits(self.step[keeps], Points(self.at.x[keeps], self.at.y[keeps]), self.half[keeps])
+
 
 def hot_of(points: Points, wide: bool) -> Hot:
     """Points, each of them given once, with their pixels."""

@@ -51,9 +51,7 @@ def begun(file: str, names: list[str], grid: str | None, idents: dict[str, str],
 
 def snapped_onto(file: str, names: list[str], factor: Fraction, say: Say) -> None:
     """Takes layers onto a grid."""
-    if file.startswith(PREFIX):
-        raise Refused("in PostGIS a layer is not brought onto a grid: ST_SnapToGrid does that")
-    engine = GeoPackage(file, writes_layers=True)
+    engine = engine_of(file, writes_layers=True)
     for name, count in snap(engine, [engine.layer(name, None) for name in names], factor).items():
         if count:
             say(f"{name}: {count} features are on the grid now, corners on borders of others taken into these")

@@ -11,19 +11,17 @@ from typing import Any
 
 import numpy as np
 
-from ..grid_pass.onto_grid import Noding, Rings, onto_grid
-from ..kernel.columns import of_bytes
 from . import statements
 from .answers import Program
+from .corners import only_takes, taken_in
 from .engines import Found
 from .judging import Broken, Sides, broken
 from .model import Refused
 from .refreshing import Work, read_all_near, take_shapes
 from .registers import Register
 from .sides import Side, side_of
-from .snapping import changed as moved
 from .tables import Item, Table, Unknown
-from .taking import Problem, read_all
+from .taking import Problem
 
 MOST = 10_000  # changes of one transaction
 UNFIT = {one.value for one in Problem} - {Problem.HEIGHTS.value, Problem.OFF_GRID.value, Problem.CROSSING.value}
@@ -56,8 +54,8 @@ class Breaks(Refused):
 @dataclass(frozen=True)
 class Change:
     """A change of one feature: of a new one the key where it is to have a certain one, of others the columns that
-    change, the shape where that does, whether it has none from then on, what its digest has to be where that is said,
-    and another key."""
+    change, the shape where that does, whether it has none from then on or just takes corners in, what its digest has to
+    be where that is said, and another key."""
 
     what: What
     layer: str
@@ -67,10 +65,12 @@ class Change:
     etag: str | None = None
     key: int | None = None
     has_no_shape: bool = False
+    takes_corners: bool = False
 
-    def is_of_words_alone(self) -> bool:
+    def is_harmless(self) -> bool:
         """Whether no rule can be broken by it."""
-        return self.what is What.UPDATE and self.shape is None and self.key is None and not self.has_no_shape
+        is_of_words = self.what is What.UPDATE and self.shape is None and self.key is None and not self.has_no_shape
+        return is_of_words or self.takes_corners
 
 
 @dataclass(frozen=True)
@@ -108,7 +108,7 @@ class Transaction:
         item = table.item(fid)
         if change.etag is not None and change.etag != item.etag():
             raise Stale(f"{change.layer}: feature {fid} has been changed since: it is {item.etag()}")
-        if fid not in now and not change.is_of_words_alone():
+        if fid not in now and not change.is_harmless():
             was.setdefault(fid, item.shape)
             now.add(fid)
         if change.what is What.DELETE:
@@ -161,8 +161,8 @@ def transact(register: Register, program: Program, changes: Sequence[Change], wh
         raise Refused(f"a transaction has 1 to {MOST} changes")
     for name in {change.layer for change in changes}:
         register.layer(name)
-    own = on_grid(changes, program)
-    return made(register, program, lambda: own, who, before_end)
+    check_shapes(changes, program)
+    return made(register, program, lambda: on_grid(register, changes, program), who, before_end)
 
 
 def made(register: Register, program: Program, planned: Callable[[], Iterable[Change]], who: str | None,
@@ -184,27 +184,35 @@ def made(register: Register, program: Program, planned: Callable[[], Iterable[Ch
     return Done(number, found)
 
 
-def on_grid(changes: Sequence[Change], program: Program) -> list[Change]:
-    """The same with all shapes on the grid; Unfit where one is none."""
+def shapes_in(changes: Sequence[Change]) -> Found:
+    """The shapes that changes have, by their places."""
     shaped = [place for place, change in enumerate(changes) if change.shape is not None]
-    if not shaped:
-        return [*changes]
-    found = Found(shaped, [changes[place].shape for place in shaped], [None] * len(shaped))
-    side = side_of(found, program.factor)
-    told = program.accepted(side.taken).told
-    wrong = [f"{changes[shaped[place]].layer}, change {shaped[place] + 1}: {what}" for place, what in told
+    return Found(shaped, [changes[place].shape for place in shaped], [None] * len(shaped))
+
+
+def check_shapes(changes: Sequence[Change], program: Program) -> None:
+    """Unfit where a shape is none."""
+    found = shapes_in(changes)
+    told = program.accepted(side_of(found, program.factor).taken).told
+    wrong = [f"{changes[found.fids[place]].layer}, change {found.fids[place] + 1}: {what}" for place, what in told
              if any(what.startswith(one) for one in UNFIT)]
     if wrong:
         raise Unfit("; ".join(wrong))
-    off = sorted({place for place, what in told if what == Problem.OFF_GRID.value})
-    own = [*changes]
-    if off:
-        read, _ = read_all(of_bytes([found.shapes[place] for place in off]))
-        (done,) = onto_grid([Rings(read.x, read.y, read.sizes)], program.factor, Noding.NEVER)
-        part = found.part(np.isin(np.arange(len(shaped)), off))
-        for place, (shape, _) in moved(part, read, done, program.factor).items():
-            own[part.fids[place]] = dataclasses.replace(own[part.fids[place]], shape=shape)
-    return own
+
+
+def on_grid(register: Register, changes: Sequence[Change], program: Program) -> list[Change]:
+    """The same with all shapes on the grid, and the changes of neighbours into which corners of these are taken."""
+    found, own = shapes_in(changes), dict[str, set[int]]()
+    if not found.fids:
+        return [*changes]
+    for change in changes:
+        if change.fid is not None and not change.is_harmless():
+            own.setdefault(change.layer, set()).add(change.fid)
+    shapes, near = taken_in(register.engine, register.layers(), program.factor, found, own)
+    made = [*changes, *(Change(What.UPDATE, name, fid, shape, takes_corners=True) for name, fid, shape in near)]
+    for place, shape in shapes.items():
+        made[found.fids[place]] = dataclasses.replace(made[found.fids[place]], shape=shape)
+    return made
 
 
 def undo(register: Register, program: Program, number: int, who: str | None = None) -> Done:
@@ -233,9 +241,14 @@ def inverse(register: Register, number: int) -> list[Change]:
     for row, name, fid, what, geom, old in rows:
         now = int(what.rpartition(" ")[2]) if what.startswith("moved") else fid
         table = Table(engine, register.layer(name))
-        for later, *state in engine.ask(statements.LOG_SINCE, name, now, row, number):
-            if not is_as_it_was(table, now, *state):
+        since = [(later, state) for later, *state in engine.ask(statements.LOG_SINCE, name, now, row, number)
+                 if not is_as_it_was(table, now, *state)]
+        for later, (_, left, left_old) in since:
+            both = engine.shape_read(geom), engine.shape_read(left)
+            if what != "update" or old != left_old or not only_takes(*both, register.state().factor):
                 raise Stale(f"{name}: feature {now} has been changed since, by change {later}")
+        if since:
+            continue  # it has corners on its borders that it had not
         values = {column: value for column, value in json.loads(old or "{}").items() if column in table.columns}
         shape, kind = engine.shape_read(geom), {"insert": What.DELETE, "delete": What.INSERT}.get(what, What.UPDATE)
         found.append(Change(kind, name, now, shape, values, None, None if now == fid else fid, geom is None))

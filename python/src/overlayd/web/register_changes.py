@@ -165,7 +165,7 @@ class RegisterChanges:
 
     def _answer(self, name: str, done: Done, status: int = 200) -> Response:
         """The feature that was changed, with its new digest and the number of the change."""
-        (_, fid, item), = done.features
+        _, fid, item = done.features[0]
         assert item is not None
         headers = {"Overlay-Change": str(done.number)}
         if status == 201:
