@@ -13,6 +13,7 @@ from osgeo import gdal, ogr
 from overlayd.kernel.rows import BlockRefused
 from overlayd.register.answers import Program
 from overlayd.register.auditing import audit
+from overlayd.register.beginning import standing
 from overlayd.register.filling import keep
 from overlayd.register.lasting import Lasting
 from overlayd.register.model import Kept, Kind, Refused, names_in, spelled
@@ -330,6 +331,13 @@ def test_layers_come_and_go(tmp_path: Path) -> None:
     own.register.adopt("parcels", "nr")
     keep(own.register, CHECK, own.program)
     works.check_tables(own, (CHECK,))
+
+
+def test_triggers_of_others_are_named(tmp_path: Path) -> None:
+    own = land(tmp_path / "land.gpkg", 11, ())
+    own.ask("CREATE TRIGGER tidy AFTER UPDATE ON zones BEGIN DELETE FROM overlay_log; END")
+    assert [line for line in standing(own.register) if "trigger" in line] == [
+        "layer zones: 3 changes pending; it has other triggers: tidy"]
 
 
 def test_layers_without_a_whole_key_are_refused_by_name(tmp_path: Path) -> None:

@@ -33,7 +33,7 @@ from overlayd.register.watching import Watching
 
 from . import register_works as works
 from .common import OVERLAY, SECONDS, Programs
-from .register_works import ALL, Land
+from .register_works import ALL, PAIRS, Land
 from .test_register_front import client_of
 
 BINARIES = sorted(Path("/usr/lib/postgresql").glob("*/bin/initdb"))
@@ -209,18 +209,66 @@ def test_curves_are_edited_and_told(words: str, tmp_path: Path) -> None:
     works.check_tables(own)
 
 
-def test_who_edits_needs_no_rights_on_the_log(words: str, tmp_path: Path) -> None:
-    own = land(words, tmp_path, 7)
-    cursor = connection(words).cursor()
-    cursor.execute("DO $$ BEGIN CREATE ROLE editor LOGIN; EXCEPTION WHEN duplicate_object THEN NULL; END $$")
-    cursor.execute("GRANT SELECT, UPDATE ON parcels TO editor")
-    editor = connection(words.replace("user=land", "user=editor")).cursor()
-    editor.execute("UPDATE parcels SET geom = ST_Translate(geom, 1, 0) WHERE fid = 1")
+FORGED = [
+    *(f"{text} overlay.{name}" for name in ("overlay_log", "overlay_pending", "overlay_result_pz", "overlay_state",
+      "overlay_violation", "overlay_layer") for text in ("DELETE FROM", "TRUNCATE")),
+    "UPDATE overlay.overlay_log SET who = 'bert'", "UPDATE overlay.overlay_violation SET who = 'bert'",
+    "INSERT INTO overlay.overlay_log (at, layer, fid, what) VALUES ('2026', 'parcels', 1, 'update')",
+    "CREATE FUNCTION overlay.st_asbinary(geometry) RETURNS bytea LANGUAGE sql AS 'SELECT NULL::bytea'",
+    "CREATE TEMP TABLE own (fid INT, geom geometry); CREATE TRIGGER forged AFTER INSERT ON own FOR EACH ROW EXECUTE"
+    " FUNCTION overlay.overlay_mark('parcels', 'fid', 'geom', '')",
+    "ALTER TABLE parcels DISABLE TRIGGER overlay_mark", "DROP TRIGGER overlay_mark ON parcels", "TRUNCATE parcels",
+    "SET session_replication_role = replica", "CREATE TRIGGER other AFTER INSERT ON parcels FOR EACH ROW EXECUTE"
+    " FUNCTION suppress_redundant_updates_trigger()",
+]
+
+
+def test_roles_may_what_they_are_for_and_nothing_else(words: str, tmp_path: Path) -> None:
+    """The owner is no superuser; an editor edits without rights on the log, and cannot forge it."""
+    filled(words, tmp_path, 7)
+    superuser = connection(words).cursor()
+    by: dict[str, Land] = {}
+    for role in ("owner", "editor", "reader", "refresher"):
+        superuser.execute(f"DO $$ BEGIN CREATE ROLE a_{role} LOGIN; EXCEPTION WHEN duplicate_object THEN NULL; END $$")
+    superuser.execute(f"GRANT CREATE ON DATABASE {words.rpartition('=')[2]} TO a_owner")
+    for layer in ("parcels", "zones"):
+        superuser.execute(f"ALTER TABLE {layer} OWNER TO a_owner")
+    assert Programs.features is not None
+    for role in ("owner", "editor", "reader", "refresher"):
+        own = words.replace("user=land", f"user=a_{role}")
+        by[role] = Land(own, Register(PostGis(own)), Program(Ask(Programs.features), Fraction(works.GRID)))
+    owner = by["owner"]
+    owner.register.begin(Fraction(works.GRID))
+    for layer in ("parcels", "zones"):
+        owner.register.adopt(layer, "nr" if layer == "parcels" else None)
+    keep(owner.register, PAIRS, owner.program)
+    for role in ("editor", "reader", "refresher"):
+        done = subprocess.run([*OVERLAY, "register", "grant", str(owner.path), f"a_{role}", role], check=False,
+                              capture_output=True, text=True, timeout=SECONDS)
+        assert (done.returncode, done.stderr) == (0, "")
+    for one in ALL[1:]:
+        keep(owner.register, one, owner.program)  # after they have got their rights
+
+    editor = connection(str(by["editor"].path)).cursor()
+    for text in ("UPDATE parcels SET geom = ST_Translate(geom, 1, 0) WHERE fid = 1",
+                 "DELETE FROM parcels WHERE fid = 2",
+                 "INSERT INTO parcels (geom, nr) SELECT geom, 'new' FROM zones WHERE fid = 1"):
+        editor.execute(text)
+    transact(by["editor"].register, owner.program, [Change(What.UPDATE, "parcels", 3, None, {"nr": "c"})],
+             "bert by a_owner/QGIS")
+    for text in FORGED:
+        with pytest.raises(Exception, match="permission denied|must be owner"):
+            editor.execute(text)
     with pytest.raises(Exception, match="permission denied"):
-        editor.execute("DELETE FROM overlay.overlay_log")
-    assert own.refresh() == 1
-    assert own.ask("SELECT who, what FROM overlay_log") == [("editor/", "update")]
-    works.check_tables(own)
+        connection(str(by["reader"].path)).cursor().execute("UPDATE parcels SET nr = 'x'")
+    assert by["refresher"].refresh() == 4
+    for text in ("UPDATE parcels SET nr = 'x'", "DELETE FROM overlay.overlay_log"):
+        with pytest.raises(Exception, match="permission denied"):
+            connection(str(by["refresher"].path)).cursor().execute(text)
+    works.check_tables(Land(words, by["reader"].register, owner.program))
+    assert by["reader"].ask("SELECT who, what FROM overlay_log ORDER BY id") == [
+        ("a_editor/", "update"), ("a_editor/", "delete"), ("a_editor/", "insert"),
+        ("bert by a_ownerQGIS by a_editor/", "update")]
 
 
 def test_kills_of_a_backend_leave_tables_of_one_state(words: str, tmp_path: Path) -> None:

@@ -24,7 +24,8 @@ from ..register.beginning import begun, engine_of, idents_of, opened, standing
 from ..register.filling import keep as begin_to_keep
 from ..register.lasting import lasting
 from ..register.model import Kept, Kind, Must, Refused, factor_of
-from ..register.postgis import PREFIX, faults
+from ..register.postgis import PREFIX, PostGis, faults
+from ..register.postgis_texts import RIGHTS
 from ..register.refreshing import refresh as refreshed
 from ..register.registers import Register
 from ..register.ruling import accept as accepted, add_rule, drop_rule
@@ -245,6 +246,16 @@ def audit(context: click.Context, file: str, part: int, program: str | None) -> 
     if found and found[0].pending:
         say(f"{found[0].pending} changes are pending: `overlay register refresh` first")
     context.exit(0 if all(one.is_right() for one in found) else 1)
+
+
+@command.command(params=[FILE, argument("role"), argument("what", click.Choice([*RIGHTS]))])
+def grant(file: str, role: str, what: str) -> None:
+    """Gives a role of a database of PostGIS what a reader, an editor or a refresher needs, of the layers that there
+    are: again after `adopt`."""
+    register = opened(file)
+    if not isinstance(register.engine, PostGis):
+        raise Refused("whose a file is, its system says: roles are for PostGIS")
+    register.engine.grant(role, what, register.layers().values())
 
 
 @command.command(params=[FILE])

@@ -7,7 +7,7 @@ from fractions import Fraction
 from . import statements
 from .engines import Engine
 from .gridding import grid_for
-from .model import Refused, Rule, factor_of
+from .model import Layer, Refused, Rule, factor_of
 from .package import PATIENCE, GeoPackage
 from .postgis import PREFIX, PostGis
 from .registers import Register, Say
@@ -46,7 +46,14 @@ def begun(file: str, names: list[str], grid: str | None, idents: dict[str, str],
         snapped_onto(file, names, register.need().factor, say)
     for name in names:
         register.adopt(name, idents.get(name))
-        say(f"{name}: {len(register.engine.features(register.layer(name)).fids)} features")
+        layer = register.layer(name)
+        say(f"{name}: {len(register.engine.features(layer).fids)} features{others(register.engine, layer)}")
+
+
+def others(engine: Engine, layer: Layer) -> str:
+    """Names triggers that somebody else has made: they may change what the register does not look at."""
+    found = engine.others(layer)
+    return f"; it has other triggers: {', '.join(found)}" if found else ""
 
 
 def snapped_onto(file: str, names: list[str], factor: Fraction, say: Say) -> None:
@@ -76,7 +83,7 @@ def standing(register: Register) -> list[str]:
     pending = {name: count for name, count in engine.ask(statements.PENDING_OF)}
     for layer in register.layers().values():
         armed = "" if engine.is_armed(layer) else "; its triggers are not as they were made: refresh makes them again"
-        found.append(f"layer {layer.name}: {pending.get(layer.name, 0)} changes pending{armed}")
+        found.append(f"layer {layer.name}: {pending.get(layer.name, 0)} changes pending{armed}{others(engine, layer)}")
     for one in register.kept():
         rows, unanswered = register.count(one)
         of = one.expression or " ".join(one.layers())

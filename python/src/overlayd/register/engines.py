@@ -112,6 +112,12 @@ class Engine(Protocol):
     def is_armed(self, layer: Layer) -> bool:
         """Whether the triggers of a layer are as they are made."""
 
+    def others(self, layer: Layer) -> list[str]:
+        """The triggers of a layer that are neither the register's nor those of every GeoPackage."""
+
+    def may_write(self, layer: Layer) -> bool:
+        """Whether who asks may change a layer."""
+
     def features(self, layer: Layer, where: str = "") -> Found:
         """Features of a layer, all or some, by their keys."""
 

@@ -29,6 +29,8 @@ NEAR = ("WHERE t.{key} IN (SELECT i.id FROM overlay_boxes q CROSS JOIN {index} i
         " AND i.minx <= q.maxx AND i.maxy >= q.miny AND i.miny <= q.maxy)")
 OURS = ("SELECT name, sql FROM sqlite_master WHERE type = 'trigger' AND tbl_name = ? AND name LIKE 'overlay\\_%'"
         " ESCAPE '\\'")
+OTHERS = ("SELECT name FROM sqlite_master WHERE type = 'trigger' AND tbl_name = ? AND name NOT GLOB 'overlay_*'"
+          " AND name NOT GLOB 'rtree_*' AND name NOT GLOB '*_feature_count_*' ORDER BY 1")
 
 
 class GeoPackage:
@@ -163,6 +165,12 @@ class GeoPackage:
 
     def is_armed(self, layer: Layer) -> bool:
         return {name: text for name, text in self.ask(OURS, layer.name)} == self._triggers(layer)
+
+    def others(self, layer: Layer) -> list[str]:
+        return [name for (name,) in self.ask(OTHERS, layer.name)]
+
+    def may_write(self, layer: Layer) -> bool:
+        return True
 
     def features(self, layer: Layer, where: str = "") -> Found:
         key, geom = quoted(layer.key), quoted(layer.geom)

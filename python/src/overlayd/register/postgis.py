@@ -157,6 +157,23 @@ class PostGis:
         found = self.ask(texts.FOUND_TRIGGERS, place_of(layer.name))
         return sorted(found) == sorted((name, "A", wanted) for name in texts.TRIGGERS)
 
+    def others(self, layer: Layer) -> list[str]:
+        return [name for (name,) in self.ask(texts.OTHERS, place_of(layer.name))]
+
+    def may_write(self, layer: Layer) -> bool:
+        return bool(self.ask("SELECT has_table_privilege(?, 'UPDATE')", place_of(layer.name))[0][0])
+
+    def grant(self, role: str, what: str, layers: Iterable[Layer]) -> None:
+        """Gives a role of the database what one who reads, edits or refreshes needs, of the tables that there are."""
+        own = [(place_of(one.name), one.key) for one in layers]
+        keys = [self.ask("SELECT pg_get_serial_sequence(?, ?)", *one)[0][0] for one in own]
+        names = {"": [""], "layer": [place for place, _ in own], "sequence": [one for one in keys if one],
+                 "table": [name for (name,) in self.ask(texts.WRITTEN)]}
+        with self._transaction("BEGIN"):
+            for of, text in texts.RIGHTS[what]:
+                for name in names[of]:
+                    self.ask(text.format(name=name, role=quoted(role)))
+
     def features(self, layer: Layer, where: str = "") -> Found:
         key, geom = quoted(layer.key), quoted(layer.geom)
         ident = "NULL" if layer.ident is None else f"t.{quoted(layer.ident)}::text"

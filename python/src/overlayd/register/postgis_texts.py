@@ -1,7 +1,7 @@
 """What PostgreSQL alone is told: functions of triggers, the search by boxes, and what tells one schema from another.
 
 Functions of triggers run with the rights of who made the register, by a fixed path of schemas: who may edit a layer
-need have no rights on the register's own tables.
+need have no rights on the register's own tables, and nobody else makes triggers that call them.
 """
 
 from __future__ import annotations
@@ -23,7 +23,7 @@ BEGIN
  IF TG_OP <> 'DELETE' THEN EXECUTE texts INTO new_key, new_shape, new_ident USING NEW; END IF;
  INSERT INTO overlay_log (at, who, change, layer, fid, what, geom, old) VALUES (
   to_char(clock_timestamp() AT TIME ZONE 'UTC', 'YYYY-MM-DD"T"HH24:MI:SS.MS"Z"'),
-  coalesce(nullif(current_setting('overlay.who', true), '') || ' by ', '') || session_user || '/'
+  coalesce(nullif(translate(current_setting('overlay.who', true), '/', ''), '') || ' by ', '') || session_user || '/'
    || current_setting('application_name'), txid_current(), layer, coalesce(old_key, new_key),
   CASE WHEN TG_OP = 'UPDATE' AND old_key <> new_key THEN 'moved to ' || new_key ELSE lower(TG_OP) END,
   old_shape, old_row::text);
@@ -40,7 +40,23 @@ CALL = """CREATE OR REPLACE FUNCTION overlay_call() RETURNS trigger LANGUAGE plp
 BEGIN PERFORM pg_notify('overlay', TG_ARGV[0]); RETURN NULL; END $$"""
 ALL = """CREATE OR REPLACE FUNCTION overlay_all() RETURNS trigger LANGUAGE plpgsql AS $$
 BEGIN RAISE EXCEPTION 'a layer of a register is not truncated: DELETE FROM it'; END $$"""
-FUNCTIONS = (MARK, CALL, ALL)
+FUNCTIONS = (MARK, CALL, ALL, "REVOKE EXECUTE ON FUNCTION overlay_mark(), overlay_call(), overlay_all() FROM PUBLIC")
+
+READS = (
+    ("", "GRANT USAGE ON SCHEMA overlay TO {role}"), ("", "GRANT SELECT ON ALL TABLES IN SCHEMA overlay TO {role}"),
+    ("", "ALTER DEFAULT PRIVILEGES IN SCHEMA overlay GRANT SELECT ON TABLES TO {role}"),
+    ("layer", "GRANT SELECT ON {name} TO {role}"))
+RIGHTS = {
+    "reader": READS,
+    "editor": (*READS, ("layer", "GRANT INSERT, UPDATE, DELETE ON {name} TO {role}"),
+               ("sequence", "GRANT USAGE ON SEQUENCE {name} TO {role}")),
+    "refresher": (
+        *READS, ("table", "GRANT INSERT, UPDATE, DELETE ON {name} TO {role}"),
+        ("", "ALTER DEFAULT PRIVILEGES IN SCHEMA overlay GRANT INSERT, UPDATE, DELETE ON TABLES TO {role}")),
+}
+# What a refresh writes.
+WRITTEN = ("SELECT format('overlay.%I', tablename) FROM pg_tables WHERE schemaname = 'overlay' AND tablename ~"
+           " '^overlay_(state|pending|problem|violation|index_.*|result_.*)$'")
 
 TRIGGERS = {
     "overlay_mark": "AFTER INSERT OR UPDATE OR DELETE ON {layer} FOR EACH ROW",
@@ -49,6 +65,8 @@ TRIGGERS = {
 }
 FOUND_TRIGGERS = ("SELECT tgname::text, tgenabled::text, encode(tgargs, 'escape') FROM pg_trigger"
                   " WHERE tgrelid = to_regclass(?) AND NOT tgisinternal AND tgname::text LIKE 'overlay\\_%'")
+OTHERS = ("SELECT tgname::text FROM pg_trigger WHERE tgrelid = to_regclass(?) AND NOT tgisinternal"
+          " AND tgname::text NOT LIKE 'overlay\\_%' ORDER BY 1")
 POSTGIS = ("SELECT n.nspname::text FROM pg_extension e JOIN pg_namespace n ON n.oid = e.extnamespace"
            " WHERE e.extname = 'postgis'")
 TABLE = "SELECT c.relkind::text FROM pg_class c WHERE c.oid = to_regclass(?)"

@@ -208,7 +208,8 @@ def on_grid(register: Register, changes: Sequence[Change], program: Program) -> 
     for change in changes:
         if change.fid is not None and not change.is_harmless():
             own.setdefault(change.layer, set()).add(change.fid)
-    shapes, near = taken_in(register.engine, register.layers(), program.factor, found, own)
+    layers = {name: layer for name, layer in register.layers().items() if register.engine.may_write(layer)}
+    shapes, near = taken_in(register.engine, layers, program.factor, found, own)
     made = [*changes, *(Change(What.UPDATE, name, fid, shape, takes_corners=True) for name, fid, shape in near)]
     for place, shape in shapes.items():
         made[found.fids[place]] = dataclasses.replace(made[found.fids[place]], shape=shape)
