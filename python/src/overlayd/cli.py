@@ -14,7 +14,7 @@ from . import __version__, ending
 
 PURPOSES = {
     "show": "Make a store of a map, start its front, and print the address.",
-    "serve": "Serve a store on the web: OGC API - Features, and a page with a map.",
+    "serve": "Serve a register or a store on the web: OGC API - Features, and a page with a map.",
     "import": "Write a map as a script for a store, in whole numbers.",
     "export": "Write the layers or the features of a store as a map.",
     "which": "Say which layers or features have a point.",

@@ -1,4 +1,4 @@
-"""Serves a register, or a store of overlay_live, on the web: OGC API - Features, and of a store a page with a map.
+"""Serves a register, or a store of overlay_live, on the web: OGC API - Features, and a page with a map.
 
     overlay serve land.gpkg --writable                     a register, whose features can be changed
     overlay serve PG:service=land                          one in PostGIS, for reading

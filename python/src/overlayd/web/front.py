@@ -30,6 +30,7 @@ from .opened_registers import Lost
 from .pages import FORM, Page, Problem, page, said_by, sent
 from .register_api import RegisterApi
 from .register_changes import RegisterChanges
+from .register_map import RegisterMap
 from .rescue import AGAIN, NotWritten
 from .systems import Systems, Unplaced
 from .usual import LEAFLET, LOOPBACK
@@ -59,7 +60,8 @@ def part(form: str) -> type[BaseConverter]:
 
 
 PARTS = {"layer": part(schemas.NAME), "item": part(schemas.ID), "script": part(r"[a-z.-]+\.(?:js|css)"),
-         "picture": part(r"[a-z0-9-]+\.png"), "collection": part(r"[^/]{1,200}"), "number": part(r"[0-9]{1,18}")}
+         "picture": part(r"[a-z0-9-]+\.png"), "collection": part(r"[^/]{1,200}"), "number": part(r"[0-9]{1,18}"),
+         "signed": part(r"-?[0-9]{1,12}")}
 
 
 def status_of(fault: Refused) -> int:
@@ -149,7 +151,7 @@ def of_store(store: LayerStore, hosts: Iterable[str] = LOOPBACK, base: str | Non
 def of_register(pages: RegisterApi, hosts: Iterable[str] = LOOPBACK, base: str | None = None,
                 leaflet: pathlib.Path = LEAFLET) -> Front:
     """The front over a register."""
-    return Front((pages, RegisterChanges(pages), Files(leaflet)), pages.writable, hosts, base)
+    return Front((pages, RegisterChanges(pages), RegisterMap(pages), Files(leaflet)), pages.writable, hosts, base)
 
 
 class Front:

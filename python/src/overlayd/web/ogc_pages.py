@@ -57,11 +57,11 @@ class Asked(NamedTuple):
 
 
 class OgcPages:
-    """The pages that all fronts have. about: what the landing page says. has_map: whether a page with a map is there.
+    """The pages that all fronts have. about: what the landing page says. map_page: the page with a map.
     kinds: the classes whose pages are described."""
 
     about = "Layers of polygons and exact overlays of them"
-    has_map = True
+    map_page = "map.html"
     kinds: tuple[type, ...] = ()
     writable = False
 
@@ -72,8 +72,7 @@ class OgcPages:
     def landing(self) -> Response:
         """For a browser the page with the map, else the landing page of the standard."""
         wanted = request.args.get("f", "html" if "text/html" in request.headers.get("Accept", "") else "json")
-        is_map = wanted == "html" and self.has_map
-        made = send_from_directory(PAGE, "map.html") if is_map else self._landing(g.root)
+        made = send_from_directory(PAGE, self.map_page) if wanted == "html" else self._landing(g.root)
         made.headers["Vary"] = "Accept"
         return made
 
@@ -84,7 +83,7 @@ class OgcPages:
                 "description": self.about,
                 "links": [
                     link(f"{root}/?f=json", "self", title="this page"),
-                    *([link(f"{root}/?f=html", "alternate", "text/html", "a map")] if self.has_map else []),
+                    link(f"{root}/?f=html", "alternate", "text/html", "a map"),
                     link(f"{root}/api", "service-desc", OPENAPI), link(f"{root}/conformance", "conformance"),
                     link(f"{root}/collections", "data", title="the layers"),
                 ],

@@ -44,7 +44,7 @@ class RegisterApi(OgcPages):
     """writable: whether features may be changed. who: the header in which a server before this one says who asks."""
 
     about = "Layers of features, what they overlap, and what breaks their rules"
-    has_map = False
+    map_page = "register.html"
 
     def __init__(self, registers: OpenedRegisters, systems: Systems, writable: bool, who: str | None = None) -> None:
         super().__init__(systems.scale, systems)

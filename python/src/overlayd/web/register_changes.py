@@ -119,9 +119,7 @@ class RegisterChanges:
         values = given.get("properties") or {}
         if not isinstance(values, dict):
             raise Problem(400, "properties: an object is wanted")
-        uri = request.headers.get("Content-Crs", "").strip().strip("<>") or self.systems.usual()
-        if uri is not None and uri not in self.systems.uris:
-            raise Problem(400, f"Content-Crs: it is {' or '.join(self.systems.uris) or 'left out'}")
+        uri = self._system()
         shape, geometry = None, given.get("geometry")
         if geometry is not None:
             try:
@@ -132,6 +130,13 @@ class RegisterChanges:
             except Unfit as fault:
                 raise Problem(422, f"geometry: {fault}") from fault
         return Change(what, name, fid, shape, values, etag, has_no_shape="geometry" in given and shape is None)
+
+    def _system(self) -> str | None:
+        """The system of a question's coordinates."""
+        uri = request.headers.get("Content-Crs", "").strip().strip("<>") or self.systems.usual()
+        if uri is not None and uri not in self.systems.uris:
+            raise Problem(400, f"Content-Crs: it is {' or '.join(self.systems.uris) or 'left out'}")
+        return uri
 
     def _transacted(self, register: Register, program: Program, changes: list[Change]) -> Done:
         return transact(register, program, changes, self.who())
@@ -161,7 +166,7 @@ class RegisterChanges:
     def _measured(self, one: Violation) -> dict[str, Any]:
         geometry = geometry_of(one.outline)
         return {"area": one.area, "width": one.width,
-                "geometry": geometry and self.systems.geometry(geometry, self.systems.usual())}
+                "geometry": geometry and self.systems.geometry(geometry, self._system())}
 
     def _answer(self, name: str, done: Done, status: int = 200) -> Response:
         """The feature that was changed, with its new digest and the number of the change."""

@@ -12,7 +12,8 @@ import subprocess
 import sys
 import threading
 import time
-from collections.abc import Iterator
+from collections.abc import Iterable, Iterator
+from pathlib import Path
 
 from .. import ending as endings
 from ..ending import Unusable
@@ -33,6 +34,7 @@ from .rescue import Rescue
 from .scratch import Scratch
 from .serving import Unheard
 from .systems import Systems, Unprojected, by_pyproj
+from .usual import LEAFLET, LOOPBACK
 
 PR_SET_PDEATHSIG = 1  # of prctl(2)
 PATIENCE = 300.0
@@ -53,9 +55,9 @@ def features_of(words: Words, store: LayerStore) -> FeatureStore | None:
     return None if path is None or words.no_features else FeatureStore(store, path, parts=words.parts)
 
 
-def systems_of(words: Words, scale: MapScale) -> Systems:
+def systems_of(scale: MapScale, as_stored: bool) -> Systems:
     """The systems that a store is served in: a projected one as CRS84 too."""
-    projected = scale.crs is not None and not scale.is_geographic() and not words.as_stored
+    projected = scale.crs is not None and not scale.is_geographic() and not as_stored
     return Systems(scale, by_pyproj(str(scale.crs)) if projected else None)
 
 
@@ -122,20 +124,26 @@ def watch_sessions(_: Server, __: Scratch, store: LayerStore, ending: Ending) ->
 
 def run(words: Words, hosts: set[str]) -> int:
     """Serves what the words of the command say, under the names of hosts, and gives the status at its end."""
-    return run_register(words, hosts) if words.register else run_store(words, hosts)
+    if words.register:
+        return run_register(words.register, words.program, hosts, words.writable, words.who, words.as_stored,
+                            words.host, words.port, words.base, words.leaflet)
+    return run_store(words, hosts)
 
 
-def run_register(words: Words, hosts: set[str]) -> int:
-    """Serves a register, whose tables another process keeps current."""
+def run_register(register: str, program: str | None = None, hosts: Iterable[str] = LOOPBACK, writable: bool = False,
+                 who: str | None = None, as_stored: bool = False, host: str = "127.0.0.1", port: int = 8080,
+                 base: str | None = None, leaflet: Path = LEAFLET) -> int:
+    """Serves a register with its page until a signal comes, and gives the status; its tables another process keeps
+    current. The address is a line of standard output."""
     try:
-        registers = OpenedRegisters(words.register, words.program or found_program(FEATURES))
+        registers = OpenedRegisters(register, program or found_program(FEATURES))
         scale = scale_of_register(registers)
-        pages = RegisterApi(registers, systems_of(words, scale), words.writable, words.who)
-        with contextlib.suppress(SystemExit, KeyboardInterrupt), refreshing(words.register, words.program):
+        pages = RegisterApi(registers, systems_of(scale, as_stored), writable, who)
+        with contextlib.suppress(SystemExit, KeyboardInterrupt), refreshing(register, program):
             signal.signal(signal.SIGTERM, lambda *_: sys.exit(0))
-            serve(of_register(pages, hosts, words.base, words.leaflet), words.host, words.port)
+            serve(of_register(pages, hosts, base, leaflet), host, port)
     except (Unheard, Unusable, Unprojected, RegisterRefused, Lost) as fault:
-        print(f"{words.register}: {fault}", file=sys.stderr)
+        print(f"{register}: {fault}", file=sys.stderr)
         return 1
     return 0
 
@@ -169,7 +177,7 @@ def run_store(words: Words, hosts: set[str]) -> int:
             try:
                 with contextlib.suppress(SystemExit, KeyboardInterrupt):
                     maps = features_of(words, store)
-                    systems = systems_of(words, store.scale)
+                    systems = systems_of(store.scale, words.as_stored)
                     front = of_store(store, hosts, words.base, words.leaflet, maps, systems)
                     serve(front, words.host, words.port)
             finally:  # a fault goes on, and what ends because of it does not end the front
