@@ -37,7 +37,7 @@ class WithGdal(InFolder):
 
 class FilesOfGdal(WithGdal):
     def test_the_counties_come_of_each_form(self) -> None:
-        words = ["--fit", "--coded", "--name-by", "name", "--output"]
+        words = ["--fit", "--split", "--name", "nc", "--output"]
         self.assertEqual(outcome(to_script, COUNTIES, *words, self.folder / "nc.txt")[0], 0)
         wanted = area_of_script((self.folder / "nc.txt").read_text())
         for name in ("a.gpkg", "a.shp", "a.gml", "a.csv"):
@@ -50,8 +50,6 @@ class FilesOfGdal(WithGdal):
             scale = json.loads(output.with_suffix(".scale.json").read_text())
             self.assertEqual((scale["crs"], scale["factor"], name), ("OGC:CRS84", 100000, name))
             self.assertEqual([round(place) for place in scale["origin"]], [-80, 35])
-            features = json.loads(output.with_suffix(".features.json").read_text())["features"]
-            self.assertEqual([one["name"] for one in features][:2], ["Ashe", "Alleghany"])
 
     def test_a_file_is_what_it_has_whatever_it_is_called(self) -> None:
         plan = str(self.file("plan.geojson", FIRST))
@@ -148,48 +146,6 @@ class FilesOfGdal(WithGdal):
             self.made("a.gpkg", str(self.file("plan.geojson", FIRST))).rename("-a.gpkg")
             self.assertEqual(outcome(to_script, "./-a.gpkg", "--factor", 2)[0], 0)
             self.assertEqual(outcome(to_script, "--factor", 2, "--", "-a.gpkg")[0], 0)
-
-    def test_features_keep_their_ids_and_all_properties(self) -> None:
-        cases: list[tuple[dict[int | str, dict[str, object]], str, list[str]]] = [
-            ({7: {"n": "a"}, 3: {"n": "b"}}, ".gpkg", ["fid 3 n b", "fid 7 n a"]),
-            ({7: {"fid": "x", "geom": 1}, 0: {"fid": "y"}}, ".gpkg", ["fid_ 0 fid y", "fid_ 7 fid x geom 1"]),
-            ({2**53 - 1: {"id": 5}, 1: {"id": 5}}, ".gpkg", ["fid 1 id 5", "fid 9007199254740991 id 5"]),
-            ({"Z-2": {"id": 5}, 1: {"id": 6}}, ".gpkg", ["fid 1 id_ Z-2 id 5", "fid 2 id_ 1 id 6"]),
-            ({7: {"n": "a"}, 3: {"n": "b"}}, ".fgb", ["id 3 n b", "id 7 n a"]),
-            ({"w": {"ID": "a"}}, ".fgb", ["id_ w ID a"]),
-            ({1: {"n": 5, "N": 6, "n_": 7, "Ä": 8, "ä": 9}}, ".gpkg", ["fid 1 n 5 N__ 6 n_ 7 Ä 8 ä 9"]),
-            ({1: {"n": 5}, 2: {"N": 6, "id": 3}}, ".fgb", ["id_ 1 n 5", "id_ 2 N_ 6 id 3"]),
-        ]
-        for given, form, wanted in cases:
-            file = self.folder / f"ids{form}"
-            found = [json.loads(FIRST) | {"id": identity, "properties": own} for identity, own in given.items()]
-            gdal_files.write(file, json.dumps({"type": "FeatureCollection", "features": found}), "EPSG:25832")
-            with self.subTest(wanted):
-                self.assertEqual(sorted(self.rows_of(file)), wanted)
-
-    def test_a_column_that_is_not_called_as_its_property_is_told(self) -> None:
-        plan = self.file("plan.geojson", FIRST.replace('"n": "a"', '"n": "a", "N": "b", "m": 1, "M": 2'))
-        script = self.folder / "plan.txt"
-        self.assertEqual(outcome(to_script, plan, "--factor", 2, "--output", script)[0], 0)
-        for name in ("out.gpkg", "out.fgb"):
-            file = self.folder / name
-            words = ["--store", script, "--program", self.model(), "--features", "--output", file]
-            status, _, errors = outcome(to_geojson, *words)
-            told = [f"{file}: the property {name} is its column {name}_, as another differs in case alone"
-                    for name in "NM"]
-            self.assertEqual((status, errors.splitlines()[1:]), (0, told))
-
-    def rows_of(self, file: pathlib.Path) -> list[str]:
-        """The columns of each feature that have a value, geometry left out; of a GeoPackage its own ids among them."""
-        package = self.made("rows.gpkg", str(file), "-nln", "ids") if file.suffix == ".fgb" else file
-        with contextlib.closing(sqlite3.connect(package)) as store:
-            store.row_factory = sqlite3.Row
-            found = [dict(row) for row in store.execute("SELECT * FROM ids")]
-        if package is not file:
-            found = [{name: value for name, value in row.items() if name != "fid"} for row in found]
-        return [" ".join(f"{name} {value}" for name, value in row.items() if value is not None
-                         and not isinstance(value, bytes))
-                for row in found]
 
 
 class OwnTexts(InFolder):

@@ -45,7 +45,7 @@ class Helps(unittest.TestCase):
 
     def test_an_option_of_one_value_that_is_given_twice_is_refused(self) -> None:
         for words in (
-            ("show", "m.json", "--folder"), ("dump", "m.db", "--output"), ("export", "--store"), ("rings", "--scale"),
+            ("show", "m.json", "--output"), ("dump", "m.db", "--output"), ("export", "--store"), ("rings", "--scale"),
             ("import", "m.json", "--factor"), ("svg", "--store"), ("which", "--scale"), ("serve", "--store"),
             ("pairs", "a", "b", "--grid"), ("pieces", "a", "b", "--a-id"), ("check", "a", "--where"),
             ("derive", "a", "a=b", "--out"), ("task", "w", "1", "--program"), ("register", "refresh", "m", "--program"),

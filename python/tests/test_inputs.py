@@ -29,11 +29,11 @@ class BadMaps(InFolder):
     def test_halves_of_characters(self) -> None:
         value = {"type": "FeatureCollection", "features": [feature("\ud800"), feature("a")]}
         file, output = self.file("odd.geojson", json.dumps(value)), self.folder / "odd.txt"
-        status, _, errors = outcome(to_script, file, "--name-by", "n", "--coded", "--fit", "--output", output)
+        status, _, errors = outcome(to_script, file, "--name-by", "n", "--fit", "--output", output)
         self.assertEqual(status, 1)
         told = f'refused: {file}, feature 1: property "n" has half of a character, \'\\ud800\': no UTF-8\n'
         self.assertIn(told, errors)
-        self.assertEqual((self.folder / "odd.names.csv").read_text().splitlines()[1:], ["1,1,a,b0,40.5"])
+        self.assertTrue(output.read_text().startswith("PUT a "))
 
     def test_coordinates_that_are_nested_deep(self) -> None:
         for depth in (10, 300, 900, 960, 970, 990, 5000):

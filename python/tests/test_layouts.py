@@ -1,7 +1,6 @@
 """Tests of overlay import's ways for large maps: fitting, splitting, union, coding, several stores."""
 
 import collections
-import csv
 import hashlib
 import json
 import random
@@ -168,9 +167,9 @@ class Fitting(InFolder):
         file = self.file("plan.wkt", self.degrees)
         for slot in (0, 4096):  # of either slot the magic stands 16 bytes after its beginning
             store = bytes(slot + 16) + b"OVLSTORE" + bytes(8192 - slot - 24)
-            for name in ("map.db", "map.scale.json", "map.names.csv"):
+            for name in ("map.db", "map.scale.json"):
                 kept = self.file(name, store)
-                told = outcome(to_script, file, "--fit", "--coded", "--output", self.folder / "map.db")
+                told = outcome(to_script, file, "--fit", "--output", self.folder / "map.db")
                 self.assertEqual(told, (2, "", f"--output: {kept} is a store, which a script is not written over\n"))
                 self.assertEqual(kept.read_bytes(), store)
                 kept.unlink()
@@ -195,11 +194,10 @@ class Fitting(InFolder):
             target = self.folder / target
             told = outcome(to_script, other, file, "--fit", "--output", target)
             self.assertEqual(told, (2, "", f"--output: {target} is the input {file}, which is not written over\n"))
-        for name, words in (("in.scale.json", []), ("in.names.csv", ["--coded"])):
-            given = self.file(name, text)
-            told = outcome(to_script, given, *words, "--output", self.folder / "in.txt")
-            self.assertEqual(told, (2, "", f"--output: {given} is the input {given}, which is not written over\n"))
-            self.assertEqual((given.read_bytes(), (self.folder / "in.txt").exists()), (text, False))
+        given = self.file("in.scale.json", text)
+        told = outcome(to_script, given, "--output", self.folder / "in.txt")
+        self.assertEqual(told, (2, "", f"--output: {given} is the input {given}, which is not written over\n"))
+        self.assertEqual((given.read_bytes(), (self.folder / "in.txt").exists()), (text, False))
         self.assertEqual((file.read_bytes(), (self.folder / "plan.scale.json").exists()), (text, False))
 
     def test_the_scale_of_another_map_is_not_written_over_by_a_script(self) -> None:
@@ -218,7 +216,7 @@ class Fitting(InFolder):
         for text in (geojson(), geojson(("a", [])), "POINT (1 2)", "POLYGON ((0 0, 1 0, 2 0, 0 0))"):
             file = self.file("plan.geojson", text)
             named = ["--name-by", "name"] if text.startswith("{") else []
-            for words in (["--fit"], ["--factor", 1, "--coded"], ["--factor", 1, *named]):
+            for words in (["--fit"], ["--factor", 1, *named]):
                 status, output, errors = outcome(to_script, file, *words, "--output", self.folder / "out.txt")
                 self.assertEqual((status, output), (1, ""), (text, words, errors))
                 self.assertEqual(errors.splitlines()[-1], "no layer: nothing is written")
@@ -333,69 +331,10 @@ class Splitting(InFolder):
         self.assertFalse((self.folder / "out.txt").exists())
 
 
-class Coding(InFolder):
-    def coded(self, features: list[tuple[str, list[list[Ring]]]], *words: object) -> tuple[str, list[dict[str, str]]]:
-        file = self.file("plan.geojson", geojson(*features))
-        status, output, errors = outcome(to_script, file, "--name-by", "name", "--coded", "--output",
-                                         self.folder / "out.txt", *words)
-        self.assertEqual((status, output), (0, ""), errors)
-        with (self.folder / "out.names.csv").open(encoding="utf-8", newline="") as table:
-            return errors, list(csv.DictReader(table))
-
-    def test_a_layer_for_each_bit_of_the_numbers(self) -> None:
-        features = [(name, [[square(20 * i, 0, 9)]]) for i, name in enumerate(("a", "b", "c, d", 'Île "e"', "f"), 1)]
-        errors, rows = self.coded(features)
-        lines = (self.folder / "out.txt").read_text().splitlines()
-        self.assertEqual([line.split()[1] for line in lines], ["b0", "b1", "b2"])
-        for bit, line in enumerate(lines):
-            found = {i for i in range(1, 6) if f"(({20 * i} 0," in line}
-            self.assertEqual(found, {i for i in range(1, 6) if i >> bit & 1})
-        self.assertEqual([row["name"] for row in rows], ["a", "b", "c, d", 'Île "e"', "f"])
-        self.assertEqual([row["expression"] for row in rows][:3], ["b0 - b1 - b2", "b1 - b0 - b2", "b0 & b1 - b2"])
-        self.assertEqual({(row["store"], row["area"]) for row in rows}, {("1", "81")})
-        self.assertIn("5 features in layers b0 to b2, 8 to 12 steps each, 3 layers in all", errors)
-        self.assertIn("1 feature in layer b0, 4 steps each, 1 layer in all", self.coded(features[:1])[0])
-
-    def test_features_of_one_name_are_one(self) -> None:
-        _, rows = self.coded([("a", [[square(0, 0, 9)]]), ("b", [[square(20, 0, 9)]]), ("a", [[square(40, 0, 9)]])])
-        told = [(row["number"], row["name"], row["area"]) for row in rows]
-        self.assertEqual(told, [("1", "a", "162"), ("2", "b", "81")])
-
-    def test_features_without_the_property_are_counted_apart(self) -> None:
-        text = geojson(("a", [[square(0, 0, 9)]]), ("b", [[square(20, 0, 9)]]))
-        file = self.file("plan.geojson", text)
-        self.assertEqual(outcome(to_script, file, "--coded", "--output", self.folder / "out.txt")[0], 0)
-        names = (self.folder / "out.names.csv").read_text().splitlines()[1:]
-        self.assertEqual([row.split('"')[1] for row in names], [f"{file}, feature 1", f"{file}, feature 2"])
-
-    def test_several_stores_where_a_layer_would_be_too_long(self) -> None:
-        features = [(f"n{i}", [[zigzag(1000, 3000 * i)]]) for i in range(5)]
-        _, rows = self.coded(features, "--factor", 1)
-        # Numbers 1 and 3 have bit 0, and no layer holds a third of 1,000 steps: 4 features, then 1.
-        self.assertEqual([(row["store"], row["number"], row["name"]) for row in rows],
-                         [("1", "1", "n0"), ("1", "2", "n1"), ("1", "3", "n2"), ("1", "4", "n3"), ("2", "1", "n4")])
-        self.assertTrue((self.folder / "out.2.txt").exists())
-        _, rows = self.coded(features, "--factor", 1, "--split")
-        self.assertEqual({row["store"] for row in rows}, {"1"})
-
-    def test_the_expression_of_a_feature_is_its_inside(self) -> None:
-        for count in (1, 2, 5, 100):
-            bits = count.bit_length()
-            for number in range(1, count + 1):
-                text = layering.expression_of(number, count)
-                whole = {f"b{bit}" for bit in range(bits)}
-                self.assertEqual(set(text.replace("&", " ").replace("-", " ").split()), whole)
-                for other in range(1, count + 1):
-                    ones = text.split(" - ")[0].split(" & ")
-                    noughts = text.split(" - ")[1:]
-                    has = [f"b{bit}" for bit in range(bits) if other >> bit & 1]
-                    inside = all(name in has for name in ones) and not any(name in has for name in noughts)
-                    self.assertEqual(inside, other == number)
-
+class Wrong(InFolder):
     def test_words_that_go_not_together(self) -> None:
         file = self.file("plan.wkt", SQUARE)
-        for words in (["--coded"], ["--coded", "--union", "--output", "x.txt"], ["--scale", "x", "--fit"], ["--check"],
-                      ["--factor", "0"]):
+        for words in (["--scale", "x", "--fit"], ["--factor", "0"]):
             status, _, errors = outcome(to_script, file, *words)
             self.assertEqual((status, words[0].strip("-") in errors.split("Error: ")[1]), (2, True), errors)
 

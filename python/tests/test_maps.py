@@ -1,6 +1,5 @@
 """Tests on two real maps: in by overlay import, through a store, and out again, with the program."""
 
-import csv
 import json
 import pathlib
 import random
@@ -26,7 +25,9 @@ def area_of_script(text: str) -> dict[str, Fraction]:
     """The areas of a script's base layers, whose rings do not cross: outer rings less their holes."""
     found = {}
     for line in text.splitlines():
-        _, name, rest = line.split(" ", 2)
+        word, name, rest = line.split(" ", 2)
+        if word != "PUT":
+            continue
         polygons = wkt.polygons_of(*wkt.read_all(rest)[0]) or []
         twice = sum(abs(area_twice(rings[0][:-1])) - sum(abs(area_twice(ring[:-1])) for ring in rings[1:])
                     for rings in polygons)
@@ -102,28 +103,26 @@ class RoundTrips(WithProgram):
 
 
 class Counties(WithProgram):
-    """The 100 counties of North Carolina in 7 coded layers."""
+    """The 100 counties of North Carolina in four stores of a layer each."""
 
     def setUp(self) -> None:
         super().setUp()
         script = self.folder / "nc.txt"
-        status, _, errors = outcome(to_script, COUNTIES, "--fit", "--coded", "--name-by", "name", "--output", script)
+        status, _, errors = outcome(to_script, COUNTIES, "--fit", "--name-by", "name", "--output", script)
         self.assertEqual(status, 0, errors)
-        self.db = self.store("nc.db", script.read_bytes())
-        with (self.folder / "nc.names.csv").open(encoding="utf-8", newline="") as table:
-            self.rows = list(csv.DictReader(table))
+        scripts = [self.folder / f"nc.{place}.txt" for place in range(1, 5)]
+        self.stores = [self.store(f"nc.{place}.db", one.read_bytes()) for place, one in enumerate(scripts, 1)]
         value = json.loads(pathlib.Path(COUNTIES).read_text(), parse_float=Decimal)
         self.rings = {}
         for feature in value["features"]:
             polygons = feature["geometry"]["coordinates"]
             polygons = [polygons] if feature["geometry"]["type"] == "Polygon" else polygons
             rings = [[(int(x * 100000), int(y * 100000)) for x, y in ring] for polygon in polygons for ring in polygon]
-            self.rings[feature["properties"]["name"]] = segments_of(rings)
+            self.rings[feature["properties"]["name"].replace(" ", "_")] = segments_of(rings)
 
-    def test_7_layers_hold_them_all(self) -> None:
-        lines = (self.folder / "nc.txt").read_text().splitlines()
-        self.assertEqual([line.split()[:2] for line in lines], [["PUT", f"b{bit}"] for bit in range(7)])
-        self.assertEqual([row["name"] for row in self.rows], list(self.rings))
+    def which(self, *words: object) -> tuple[int, str, str]:
+        stores = [word for store in self.stores for word in ("--store", store)]
+        return outcome(which, *stores, "--program", self.program, *words)
 
     def test_points_are_told_their_county(self) -> None:
         source = random.Random(100)
@@ -133,102 +132,15 @@ class Counties(WithProgram):
             self.assertFalse(any(on(segments, (x, y, 1)) for segments in self.rings.values()), place)
         self.assertGreater(sum(map(len, wanted)), 150)
         text = "".join(f"{Decimal(x) / 100000} {Decimal(y) / 100000}\n" for x, y in points)
-        file = self.file("points.txt", text)
-        words = ["--store", self.db, "--names", self.folder / "nc.names.csv", "--points", file]
-        status, output, errors = outcome(which, *words, "--program", self.program)
+        status, output, errors = self.which("--points", self.file("points.txt", text))
         self.assertEqual((status, errors), (0, ""))
         self.assertEqual([line.split("\t") if line else [] for line in output.splitlines()], wanted)
 
-    def test_on_a_common_border_both_are_among_those_that_fit(self) -> None:
+    def test_on_a_common_border_both_are_named(self) -> None:
         one, other = (set(self.rings[name]) for name in ("Ashe", "Alleghany"))
         ax, ay, bx, by = sorted(one & other)[0]
         point = f"{Decimal(ax + bx) / 200000} {Decimal(ay + by) / 200000}".split()
-        words = ["--store", self.db, "--names", self.folder / "nc.names.csv", "--program", self.program, "--", *point]
-        # Numbers 1 and 2: bits 0 and 1 may be either, and the third number that fits is Surry's.
-        self.assertEqual(outcome(which, *words)[:2], (0, "edge\tAshe\tAlleghany\tSurry\n"))
-
-    def test_the_areas_say_that_none_overlap(self) -> None:
-        areas = {row["name"]: Fraction(row["area"]) * 10**10 for row in self.rows}
-        store = self.store("any.db", (self.folder / "nc.txt").read_text()
-                           + "DEFINE any = b0 | b1 | b2 | b3 | b4 | b5 | b6\n"
-                           + "".join(f"DEFINE c{row['number']} = {row['expression']}\n" for row in self.rows[:20]))
-        told = outcome(to_script, COUNTIES, "--fit", "--coded", "--check", "--name-by", "name", "--program",
-                       self.program, "--output", self.folder / "again.txt")
-        self.assertEqual((told[0], told[2].splitlines()[-1]), (0, "of 100 features no two overlap"))
-        told = outcome(to_rings, "--store", store, "--program", self.program, "--layer", "any", "--areas")
-        self.assertEqual(Fraction(told[1].split()[-1]), sum(areas.values()))
-        told = outcome(to_geojson, "--store", store, "--program", self.program,
-                       *(f"--layer=c{n}" for n in range(1, 21)))
-        found = [Fraction(one["properties"]["area_exact"]) for one in json.loads(told[1])["features"]]
-        self.assertEqual(found, list(areas.values())[:20])
-        layer = outcome(to_rings, "--store", self.db, "--program", self.program, "--layer", "b2", "--areas")[1]
-        self.assertEqual(Fraction(layer.split()[-1]) * 10**10,
-                         sum(areas[row["name"]] for row in self.rows if int(row["number"]) & 4))
-
-
-def rectangle(left: int, low: int, right: int, high: int) -> str:
-    return f"{left} {low}, {right} {low}, {right} {high}, {left} {high}, {left} {low}"
-
-
-class Overlaps(WithProgram):
-    def checked(self, *texts: str, words: tuple[object, ...] = ("--factor", 1)) -> tuple[int, list[str]]:
-        """The status of --check, and the lines that it prints."""
-        file = self.file("plan.wkt", " ".join(f"POLYGON (({text}))" for text in texts))
-        given = [file, "--coded", "--check", *words, "--output", self.folder / "plan.txt"]
-        status, _, errors = outcome(to_script, *given, "--program", self.program)
-        lines = errors.replace(f"{file}, text ", "").splitlines()
-        return status, [line for line in lines if line.startswith(("overlap", "of "))]
-
-    def test_features_that_overlap_are_told(self) -> None:
-        squares = [f"{x} 0, {x + 10} 0, {x + 10} 10, {x} 10, {x} 0" for x in (0, 10, 20, 29)]
-        self.assertEqual(self.checked(*squares[:3]), (0, ["of 3 features no two overlap"]))
-        # Between 29 and 30 lie features 3 and 4, and together they spell 7, which is nobody's.
-        self.assertEqual(self.checked(*squares), (1, ["overlap: 3, 4, 10", "of 4 features 1 pairs overlap, and their "
-                                                                           "numbers are mixed"]))
-        words = ["--store", self.store("plan.db", (self.folder / "plan.txt").read_bytes()), "--names",
-                 self.folder / "plan.names.csv", "--program", self.program]
-        points = self.file("points.txt", "29.5 5\n25 5\n")  # a point that nobody can answer takes no other along
-        self.assertEqual(outcome(which, *words, "--points", points)[:2],
-                         (1, "error\t29.5 5: number 7 is no feature's: features overlap there, or this is another "
-                             f"store's table\n{self.folder / 'plan.wkt'}, text 3\n"))
-        self.assertEqual(outcome(which, *words, "25", "5")[1], f"{self.folder / 'plan.wkt'}, text 3\n")
-
-    def test_rings_that_cross_have_the_area_of_their_inside(self) -> None:
-        # A bow tie has no area by the sum over its corners; what lies in one of its halves overlaps it.
-        bow, within = "0 0, 4 4, 4 0, 0 4, 0 0", "0 1, 1 2, 0 3, 0 1"
-        self.assertEqual(self.checked(bow, "10 0, 14 0, 14 4, 10 0"), (0, ["of 2 features no two overlap"]))
-        self.assertEqual(self.checked(bow, within)[1][0], "overlap: 1, 2, 1")
-
-    def test_one_table_with_the_largest_first(self) -> None:
-        plan = [rectangle(0, 0, 100, 100), rectangle(90, 0, 200, 100), rectangle(190, 50, 300, 99),
-                rectangle(0, 99, 300, 200), rectangle(299, 0, 400, 51)]
-        wanted = ["overlap: 1, 2, 1000", "overlap: 2, 3, 490", "overlap: 2, 4, 110", "overlap: 1, 4, 100",
-                  "overlap: 3, 5, 1", "of 5 features 5 pairs overlap, and their numbers are mixed"]
-        self.assertEqual(self.checked(*plan), (1, wanted))
-        # In the world's unit, here of a hundred whole numbers, and with digits where an area is small.
-        small = self.checked(*plan, words=("--factor", 100, "--factor-y", 100))
-        self.assertEqual(small, (1, wanted))
-
-    def test_areas_are_those_of_the_world(self) -> None:
-        texts = ["0 0, 2.5 0, 2.5 1, 0 1, 0 0", "2.25 0, 4 0, 4 1, 2.25 1, 2.25 0", "3.99 0.5, 5 0.5, 5 1, 3.99 0.5"]
-        status, lines = self.checked(*texts, words=("--factor", 100))
-        # The third has of the second what is left of x = 4: a triangle of 0.01 by 0.01 * 0.5 / 1.01.
-        small = Fraction(1, 100) ** 2 / Fraction("2.02") / 2
-        self.assertEqual((status, lines[:2]), (1, ["overlap: 1, 2, 0.25", f"overlap: 2, 3, {float(small):.7f}"]))
-
-    def test_steps_of_any_length(self) -> None:
-        far = 1000000
-        plan = [rectangle(-far, -far, far, 10), rectangle(-far, 5, far, far), rectangle(0, far - 7, 3, far)]
-        self.assertEqual(self.checked(*plan)[1][:2], [f"overlap: 1, 2, {2 * far * 5}", "overlap: 2, 3, 21"])
-
-    def test_many_features(self) -> None:
-        plan = [rectangle(20 * i, 20 * j, 20 * i + 20, 20 * j + 20) for i in range(40) for j in range(30)]
-        self.assertEqual(self.checked(*plan), (0, ["of 1200 features no two overlap"]))
-        plan[615] = rectangle(20 * 20 - 3, 20 * 15 - 2, 20 * 20 + 20, 20 * 15 + 20)
-        # 615 is column 20, row 15; below it is 614, left of it 585, and 584 is left below.
-        self.assertEqual(self.checked(*plan), (1, [
-            "overlap: 586, 616, 60", "overlap: 615, 616, 40", "overlap: 585, 616, 6",
-            "of 1200 features 3 pairs overlap, and their numbers are mixed"]))
+        self.assertEqual(self.which("--", *point)[:2], (0, "edge\tAshe\tAlleghany\n"))
 
 
 class LargeMaps(WithProgram):

@@ -15,7 +15,6 @@ import jsonschema
 import pytest
 
 from overlayd.web import schemas
-from .test_features import MOVED, Case, feature
 from .testing import SHIFTED, SQUARE, FrontCase, Told
 
 pytestmark = pytest.mark.live
@@ -177,48 +176,15 @@ class OfLayers(FrontCase, Judged):
         self.check_answer(document, self.client.ask("/batch", "POST", {"commands": [{"drop": "no"}]}), "post", "/batch")
 
 
-class OfMap(Case, Judged):
-    def test_each_page_of_the_map_answers_as_it_is_described(self) -> None:
-        document = self.check_document(self.client.get("/api"))
-        for path, methods in document.value["paths"].items():
-            if "get" in methods and "tiles" not in path:
-                asked = path.format(collectionId="plan", featureId=1)
-                told = self.client.ask(f"{asked}?{'x=1&y=1&' if 'locate' in path else ''}f=json")
-                self.assertEqual(told.status, 200, path)
-                self.check_answer(document, told, "get", path)
-
-    def test_properties_have_the_types_that_they_have(self) -> None:
-        schema = self.client.get("/api")["components"]["schemas"]["mapProperties"]
-        kinds = {name: (one.get("type"), one.get("nullable", False)) for name, one in schema["properties"].items()}
-        self.assertEqual(kinds, {"name": ("string", False), "n": ("integer", False), "part": ("number", False),
-                                 "no": (None, False), "list": ("array", False), "area": ("number", False)})
-        self.assertEqual(schema["required"], ["name", "area"])
-        self.assertEqual(schemas.schema_of([1, 2.5, None]), {"type": "number", "nullable": True})
-        self.assertEqual(schemas.schema_of([1, "a"]), {})
-
-    def test_changes_of_features_are_described(self) -> None:
-        document = self.check_document(self.client.get("/api"))
-        items, item = "/collections/plan/items", "/collections/plan/items/{featureId}"
-        body = feature("Polygon", [MOVED], {"name": "new"})
-        schema = document.value["paths"][items]["post"]["requestBody"]["content"]["application/geo+json"]["schema"]
-        self.assertEqual(document.against(body, schema), [])
-        self.check_answer(document, self.client.ask(items, "POST", body), "post", items)
-        self.check_answer(document, self.client.ask(f"{items}/2", "PUT", body), "put", item)
-        self.check_answer(document, self.client.ask(f"{items}/2", "PUT", body, {"HTTP_IF_MATCH": '"0"'}), "put", item)
-        self.check_answer(document, self.client.ask(f"{items}/2", "DELETE"), "delete", item)
-        self.check_answer(document, self.client.ask(f"{items}/2", "DELETE"), "delete", item)
-
-
 class Judges(unittest.TestCase):
     """The rules find what is against them, so that they are no empty ones."""
 
     def test_faults_of_a_description_are_found(self) -> None:
         from overlayd.web import openapi
+        from overlayd.web.features_api import FeaturesApi
         from overlayd.web.map_api import MapApi
-        from overlayd.web.map_features import MapFeatures
 
-        described = openapi.Described("m", schemas.properties_of([{"a": 1}], "area"))
-        good = openapi.document("t", "http://127.0.0.1", True, described, (MapFeatures, MapApi))
+        good = openapi.document("t", "http://127.0.0.1", True, (FeaturesApi, MapApi))
         self.assertEqual(list(Document(good).faults()), [])
         spoilt = (('"operationId": "getApi"', '"operationId": "getStatus"'), ('"in": "path"', '"in": "body"'),
                   ('"required": true', '"required": false'), ('"type": "string"', '"type": "text"'),

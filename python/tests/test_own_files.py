@@ -2,6 +2,7 @@
 leaves nothing for good."""
 
 import functools
+import json
 import signal
 import subprocess
 import sys
@@ -9,7 +10,6 @@ from unittest import mock
 
 from overlayd.commands import pieces
 from overlayd.files import gdal_writing
-from overlayd.store import keeping
 from overlayd.kernel import Ask
 from .common import OVERLAY, SECONDS, SOURCES, SQUARE, InFolder, Programs, outcome
 
@@ -26,42 +26,34 @@ class OwnFiles(InFolder):
 
     def test_files_beside_an_output_that_are_the_users(self) -> None:
         source = self.file("plan.geojson", PLAN)
-        for end in keeping.ENDS:
-            mine = self.file(f"out{end}", MINE)
-            status, told = self.ran("import", source, "--coded", "--output", self.folder / "out.txt")
-            self.assertEqual((status, mine.read_text()), (2, MINE), told)
-            self.assertIn(f"--output: {mine} stands, and is no file of this tool's", told)
-            self.assertFalse((self.folder / "out.txt").exists())
-            mine.unlink()
+        mine = self.file("out.scale.json", MINE)
+        status, told = self.ran("import", source, "--output", self.folder / "out.txt")
+        self.assertEqual((status, mine.read_text()), (2, MINE), told)
+        self.assertIn(f"--output: {mine} stands, and is no file of this tool's", told)
+        self.assertFalse((self.folder / "out.txt").exists())
+        mine.unlink()
         for _ in range(2):  # what it has written itself it replaces
-            self.assertEqual(self.ran("import", source, "--coded", "--output", self.folder / "out.txt")[0], 0)
-            self.assertEqual([end for end in keeping.ENDS if not (self.folder / f"out{end}").is_file()], [])
+            self.assertEqual(self.ran("import", source, "--output", self.folder / "out.txt")[0], 0)
+            self.assertTrue(mine.is_file())
 
-    def test_names_and_a_scale_that_the_user_has_edited(self) -> None:
-        """They are of the tool's form, and belong to no script where none of the output's name is there."""
-        source, output = self.file("plan.wkt", SQUARE), self.folder / "out.txt"
-        made = {self.folder / f"out{end}": edit for end, edit in ((".names.csv", ("plan.wkt, text 1", "town hall")),
-                                                                  (".scale.json",
-                                                                   ('"factor"', '"title": "Mine", "factor"')))}
-        for mine, edit in made.items():
-            self.assertEqual(self.ran("import", source, "--coded", "--output", output)[0], 0)
-            self.assertEqual(self.ran("import", source, "--coded", "--output", output)[0], 0)
-            output.unlink()
-            # The same are no loss.
-            self.assertEqual(self.ran("import", source, "--coded", "--output", output)[0], 0)
-            output.unlink()
-            edited = mine.read_text().replace(*edit)
-            mine.write_text(edited)
-            status, told = self.ran("import", source, "--coded", "--output", output)
-            self.assertEqual((status, mine.read_text() == edited, output.exists()), (2, True, False), told)
-            self.assertIn(
-                f"--output: {mine} stands, would be written otherwise, and belongs to no script, as {output} is not "
-                "there as one: it was not named, and is not written over; take another name, or move it away",
-                told)
-            output.write_text("PUT plan POLYGON ((0 0, 1 0, 1 1, 0 0))\n")
-            self.assertEqual(self.ran("import", source, "--coded", "--output", output)[0], 0)
-            self.assertNotEqual(mine.read_text(), edited)
-            output.unlink()
+    def test_a_scale_that_the_user_has_edited(self) -> None:
+        """It is of the tool's form, and belongs to no script where none of the output's name is there."""
+        source, output, mine = self.file("plan.wkt", SQUARE), self.folder / "out.txt", self.folder / "out.scale.json"
+        words = "import", source, "--output", output
+        self.assertEqual([self.ran(*words)[0] for _ in range(2)], [0, 0])
+        output.unlink()
+        self.assertEqual(self.ran(*words)[0], 0)  # the same is no loss
+        output.unlink()
+        edited = mine.read_text().replace('"factor"', '"title": "Mine", "factor"')
+        mine.write_text(edited)
+        status, told = self.ran(*words)
+        self.assertEqual((status, mine.read_text() == edited, output.exists()), (2, True, False), told)
+        self.assertIn(
+            f"--output: {mine} stands, would be written otherwise, and belongs to no script, as {output} is not "
+            "there as one: it was not named, and is not written over; take another name, or move it away", told)
+        output.write_text("PUT plan POLYGON ((0 0, 1 0, 1 1, 0 0))\n")
+        self.assertEqual(self.ran(*words)[0], 0)
+        self.assertNotEqual(mine.read_text(), edited)
 
     def test_a_scale_that_is_given_may_have_the_name_of_the_output(self) -> None:
         source, given = self.file("plan.wkt", SQUARE), self.file("out.scale.json", '{"title": "out", "factor": 10}')
@@ -72,10 +64,10 @@ class OwnFiles(InFolder):
 
     def test_scripts_of_several_stores_that_are_the_users(self) -> None:
         """NAME.1.txt and so on are not named by --output NAME.txt."""
-        rings = (", ".join(f"{100 * at + x} {y}" for x, y in [*((x, x % 2) for x in range(41)), (20, 90), (0, 0)])
-                 for at in range(900))
-        source = self.file("many.wkt", "".join(f"POLYGON (({ring}))\n" for ring in rings))
-        words = "import", source, "--coded", "--split", "--factor", 1, "--output", self.folder / "out.txt"
+        source = self.file("many.geojson", json.dumps({"type": "FeatureCollection", "features": [
+            {"type": "Feature", "properties": {"n": f"n{x}"}, "geometry": {"type": "Polygon", "coordinates": [
+                [[9 * x, 0], [9 * x + 5, 0], [9 * x, 5], [9 * x, 0]]]}} for x in range(40)]}))
+        words = "import", source, "--name-by", "n", "--factor", 1, "--output", self.folder / "out.txt"
         mine = self.file("out.2.txt", MINE)
         status, told = self.ran(*words)
         self.assertEqual((status, mine.read_text(), len(list(self.folder.iterdir()))), (2, MINE, 2), told)

@@ -14,7 +14,7 @@ class Progresses(InFolder):
         """A call of overlay import for 300 features, whose bars show at once."""
         features = [(f"n{place}", [[square(7 * place, 0, 5)]]) for place in range(300)]
         file, output = self.file("many.geojson", geojson(*features)), self.folder / "many.txt"
-        words = [str(file), "--coded", "--output", str(output)]
+        words = [str(file), "--output", str(output)]
         code = (f"import sys\n{before}\n"
                 "from overlayd import cli, progress\n"
                 "progress.BEGIN_SECONDS = 0\n"
@@ -27,12 +27,11 @@ class Progresses(InFolder):
                               stderr=writer, check=False, timeout=SECONDS)
         os.close(writer)
         told = b""
-        while not told.endswith(b"many.features.json\r\n"):
+        while not told.endswith(b"many.txt\r\n"):
             told += os.read(reader, 65536)
         os.close(reader)
         self.assertEqual((done.returncode, done.stdout), (0, b""))
-        for what in (b"rounding features: ", b"laying out features: "):
-            self.assertRegex(told, what + rb" *[0-9]+%.*/300 ")
+        self.assertRegex(told, rb"rounding features:  *[0-9]+%.*/300 ")
 
     def test_nothing_elsewhere(self) -> None:
         done = subprocess.run(self.call(), cwd=TOP, env=SOURCES, capture_output=True,

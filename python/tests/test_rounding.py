@@ -18,7 +18,7 @@ from overlayd.program import Server
 from overlayd.store.world import World
 from . import testing
 from .common import OVERLAY, Programs, outcome
-from .test_features import Case
+from .testing import FrontCase
 
 pytestmark = pytest.mark.live
 
@@ -44,15 +44,13 @@ def feature(corners: Corners) -> str:
     return '{"type": "Feature", "properties": {"name": "own"}, "geometry": ' + geometry(corners) + "}"
 
 
-def stored(geometry: Any) -> list[list[int]]:
-    """The outer ring of a polygon of the world, in hundredths."""
-    return [[round(100 * number) for number in place] for place in geometry["coordinates"][0]]
-
-
-class OnePolygon(Case):
+class OnePolygon(FrontCase):
     """Of a store in hundredths of the world's unit."""
 
-    words = ("--coded", "--name-by", "name", "--factor", "100")
+    scale = {"factor": 100}
+
+    def setUp(self) -> None:
+        self.folder = self.enterContext(testing.folder())
 
     def file(self, name: str, text: str) -> pathlib.Path:
         made = self.folder / name
@@ -106,36 +104,23 @@ class OnePolygon(Case):
         for name, corners in GIVEN.items():
             told = self.client.ask(f"/collections/{name}", "PUT", geometry(corners).encode())
             self.assertEqual((told.status, told.value["moved"]), (200, 0.005), told.value)
-            self.assertIn(TEXT, self.layer_texts()[name] or "")
-            made = self.client.ask("/collections/plan/items", "POST", feature(corners).encode())
-            self.assertEqual((made.status, made.value["moved"]), (201, 0.005), made.value)
-            self.assertEqual(self.corners_of(made.value["id"]), WHOLE)
-            one = f"/collections/plan/items/{self.client.get('/collections/plan/items')['features'][0]['id']}"
-            self.assertEqual(self.client.ask(one, "PUT", feature(corners).encode()).status, 200)
-            self.assertEqual(self.corners_of(one.rpartition("/")[2]), WHOLE)
-            self.client.change(one, "DELETE")
-
-    def corners_of(self, identity: object) -> list[list[int]]:
-        return stored(self.client.get(f"/collections/plan/items/{identity}")["geometry"])
+            with self.server.session() as one:
+                texts = {layer.name: layer.text for layer in one.layers()}
+            self.assertIn(TEXT, texts[name] or "")
 
     def test_by_the_client(self) -> None:
-        for corners in GIVEN.values():
-            given: Any = json.loads(geometry(corners))
-            self.assertEqual(World(self.server).text_of(given), f"POLYGON {TEXT}")
-            with self.server.session() as one:
-                made = World(self.server).features(one).add(given, {"name": "own"})
-            self.assertEqual(stored(made.geometry), WHOLE)
+        store = testing.square_store(self.folder)
+        self.file("map.scale.json", '{"factor": 100}')
+        with Server(store, program=testing.PROGRAM) as server:
+            for corners in GIVEN.values():
+                given: Any = json.loads(geometry(corners))
+                self.assertEqual(World(server).text_of(given), f"MULTIPOLYGON ({TEXT})")
 
     def test_points_are_the_same_ones(self) -> None:
-        with self.server.session() as one:
-            self.client.ask("/collections/plan/items", "POST", feature(HALVES).encode())
-            found = World(self.server).features(one)
-            for (x, y), (long_x, long_y) in zip(HALVES, LONG):
-                short, long = (self.client.get(f"/locate?x={a}&y={b}") for a, b in ((x, y), (long_x, long_y)))
-                self.assertEqual((short["asked"], short["exact"]), (long["asked"], True))
-                self.assertFalse(long["exact"], long)
-                named = [(one["name"], one["place"]) for one in long["features"]]
-                self.assertEqual(found.at(float(long_x), float(long_y)), named)
+        for (x, y), (long_x, long_y) in zip(HALVES, LONG):
+            short, long = (self.client.get(f"/locate?x={a}&y={b}") for a, b in ((x, y), (long_x, long_y)))
+            self.assertEqual((short["asked"], short["exact"]), (long["asked"], True))
+            self.assertFalse(long["exact"], long)
 
     def test_which_says_what_it_asked(self) -> None:
         store = self.folder / "map.db"

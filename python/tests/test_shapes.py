@@ -11,8 +11,9 @@ from fractions import Fraction
 from overlayd.geometry.plane import Box
 from overlayd.grid import limits, scale as scales
 from overlayd.web import map_scale, shapes
-from overlayd.web.map_scale import exact, rounded
-from overlayd.web.shapes import Feature, text_of
+from overlayd.store.world import exact, text_of
+from overlayd.web.map_scale import rounded
+from overlayd.web.shapes import Feature
 from . import testing
 
 Place = tuple[Fraction, Fraction]
@@ -173,7 +174,7 @@ class Numbers(unittest.TestCase):
 
 class Texts(unittest.TestCase):
     def test_a_geometry_becomes_a_text(self) -> None:
-        scale = testing.map_scale(factor=100, origin=[500, 0])
+        scale = scales.of_value(dict(factor=100, origin=[500, 0]))
         ring = [["500.5", 0], [501, 0], [501, 1, 77], ["500.5", 0]]
         given = json.loads(json.dumps({"type": "Polygon", "coordinates": [ring]}), parse_int=str)
         self.assertEqual(text_of(given, scale), ("MULTIPOLYGON (((50 0, 100 0, 100 100, 50 0)))", 0.0))
@@ -184,7 +185,7 @@ class Texts(unittest.TestCase):
         self.assertEqual(text_of({"type": "Polygon", "coordinates": []}, scale).wkt, "MULTIPOLYGON EMPTY")
 
     def test_it_tells_how_far_a_corner_is_moved(self) -> None:
-        scale = testing.map_scale(factor=100, factor_y=10)
+        scale = scales.of_value(dict(factor=100, factor_y=10))
         ring = [["0.001", 0], [1, 0], [1, "0.96"], ["0.001", 0]]
         text = text_of({"type": "Polygon", "coordinates": [ring]}, scale)
         self.assertEqual(text, ("MULTIPOLYGON (((0 0, 100 0, 100 10, 0 0)))", 0.04))
@@ -199,4 +200,4 @@ class Texts(unittest.TestCase):
             {"type": "MultiPolygon", "coordinates": [[[[]]]]},
         )
         for given in bad:
-            self.assertRaises(ValueError, text_of, given, testing.map_scale())
+            self.assertRaises(ValueError, text_of, given, scales.Scale())

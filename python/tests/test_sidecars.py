@@ -1,4 +1,4 @@
-"""Tests of what goes with a script: a store keeps the scale and the names that it was made with."""
+"""Tests of what goes with a script: a store keeps the scale that it was made with."""
 
 import json
 import pathlib
@@ -20,7 +20,7 @@ class StoresThatStand(WithProgram):
 
     def setUp(self) -> None:
         super().setUp()
-        self.words = ["--fit", "--coded", "--name-by", "name", "--output", self.folder / "nc.txt"]
+        self.words = ["--fit", "--split", "--name", "nc", "--output", self.folder / "nc.txt"]
         self.assertEqual(outcome(to_script, COUNTIES, *self.words)[0], 0)
         self.db = self.store("nc.db", (self.folder / "nc.txt").read_bytes())
         value = json.loads(pathlib.Path(COUNTIES).read_text())
@@ -31,29 +31,21 @@ class StoresThatStand(WithProgram):
         return {file.name: file.read_bytes() for file in self.folder.iterdir()}
 
     def wake(self) -> tuple[int, str, str]:
-        return outcome(which, "--store", self.db, "--names", self.folder / "nc.names.csv", "--program", self.program,
-                       "--", "-78.64", "35.77")
+        return outcome(which, "--store", self.db, "--program", self.program, "--", "-78.64", "35.77")
 
     def test_another_map_is_not_written_under_the_name_of_a_store(self) -> None:
-        self.assertEqual(self.wake(), (0, "Wake\n", ""))
+        self.assertEqual(self.wake(), (0, "nc\n", ""))
         before = self.files()
         status, output, errors = outcome(to_script, self.part, *self.words)
         told = (f"--output: {self.db} is a store, and {self.folder / 'nc.scale.json'} says what its numbers mean: it "
                 "would say something else; take another name, or move the store away\n")
         self.assertEqual((status, output, errors), (2, "", told))
         self.assertEqual(self.files(), before)
-        self.assertEqual(self.wake(), (0, "Wake\n", ""))
+        self.assertEqual(self.wake(), (0, "nc\n", ""))
         (self.folder / "nc.scale.json").unlink()
         self.assertEqual(outcome(to_script, self.part, *self.words)[0], 2)
         other = [*self.words[:-1], self.folder / "part.txt"]
         self.assertEqual(outcome(to_script, self.part, *other)[0], 0)
-
-    def test_other_names_under_the_same_scale_are_not_written_either(self) -> None:
-        scale = self.file("given.json", (self.folder / "nc.scale.json").read_bytes())
-        before = self.files()
-        told = outcome(to_script, self.part, "--scale", scale, *self.words[1:])
-        self.assertEqual((told[0], "nc.names.csv says what" in told[2]), (2, True), told)
-        self.assertEqual(self.files(), before)
 
     def test_the_same_map_again_is_written(self) -> None:
         before = self.files()
@@ -69,13 +61,12 @@ class StoresThatStand(WithProgram):
         old.unlink()
         self.assertEqual(outcome(to_script, other, *self.words)[0], 0)
         old.write_bytes(older)
-        told = f"{old}: layers that are changed since (b0, b1, b2, b3, b4, b5), or of another map: " \
+        told = f"{old}: layers that are changed since (nc), or of another map: " \
                f"{self.folder / 'nc.scale.json'} was written for other ones"
         words = ["--store", old, "--program", self.program]
-        self.assertIn("not the features of this store", outcome(which, *words, "1", "1")[2])
-        self.assertIn(told, outcome(which, *words, "--layers", "1", "1")[2])
+        self.assertIn(told, outcome(which, *words, "1", "1")[2])
         for tool in (to_rings, to_geojson):
-            self.assertIn(told, outcome(tool, *words, "--layer", "b0")[2])
+            self.assertIn(told, outcome(tool, *words, "--layer", "nc")[2])
         given = self.folder / "nc.scale.json"
         self.assertNotIn(told, outcome(to_rings, *words, "--scale", given)[2])
         foreign = self.store("nc.store", f"PUT A {SQUARE}\n")

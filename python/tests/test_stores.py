@@ -273,22 +273,3 @@ class ProgramsThatAreFound(InFolder):
             with self.assertRaisesRegex(Unusable, "^overlay_live cannot be built: no room$"):
                 program_files.found_program()
             self.assertEqual([one.name for one in top.glob(".built-*")], [])
-
-
-class OfAnswers(InFolder):
-    def test_bits_spell_a_number(self) -> None:
-        table = {1: "a", 2: "b", 3: "c", 5: "e"}
-        for answers, text in ((["in", "out", "in"], "e"), (["out", "out", "out"], ""), (["in", "in", "out"], "c"),
-                              (["edge", "in", "out"], "edge\tb\tc"), (["edge", "edge", "out"], "edge\ta\tb\tc"),
-                              (["out", "out", "edge"], "edge")):
-            self.assertEqual(which.of_bits(table, answers).text(), text)
-        self.assertRegex(which.of_bits(table, ["out", "in", "in"]).fault or "", "number 6 is no feature's")
-
-    def test_tables_that_are_none(self) -> None:
-        for text in ("a,b\n1,2\n", "store,number,name\n1,x,y\n", "store,number,name\n1\n", "\xff"):
-            with self.assertRaisesRegex(Unusable, "expected is NAME.names.csv of overlay import --coded"):
-                which.read_table(self.file("names.csv", text.encode("latin-1") + b"\n"))
-        with self.assertRaisesRegex(Unusable, "^/absent/names.csv: No such file or directory$"):
-            which.read_table(pathlib.Path("/absent/names.csv"))
-        table = self.file("names.csv", "\ufeffstore,number,name\r\n2,3,Ash\r\n")
-        self.assertEqual(which.read_table(table), {2: {3: "Ash"}})

@@ -22,6 +22,7 @@ from overlayd.web.front import Front, of_store
 from overlayd.web.layer_store import LayerStore
 from overlayd.web.map_scale import MapScale
 from overlayd.web.scratch import Scratch
+from overlayd.web.systems import Projection, Systems
 
 PROGRAM = "overlay_live"  # the one of --live
 HOST = "127.0.0.1:8080"
@@ -142,6 +143,7 @@ class FrontCase(unittest.TestCase):
     lines: tuple[str, ...] = ()
     scale: Mapping[str, object] = {}
     writable = True
+    projection: Projection | None = None
     server: Server
     store: LayerStore
     front: Front
@@ -159,7 +161,7 @@ class FrontCase(unittest.TestCase):
             cls.server, scratch, map_scale(**cls.scale), version=version, kept=False, writable=cls.writable
         )
         cls.addClassCleanup(cls.store.close)
-        cls.front = of_store(cls.store)
+        cls.front = of_store(cls.store, systems=Systems(cls.store.scale, cls.projection))
         cls.client = Client(cls.front)
 
     @classmethod

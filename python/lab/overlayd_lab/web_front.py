@@ -1,5 +1,4 @@
-"""A module for trials of the front, browser.py, map_clients.py and others: a store of real shapes,
-a running front, Debian's packages."""
+"""A module for trials of the front: a store of real shapes, a running front, Debian's packages."""
 
 from __future__ import annotations
 
@@ -10,7 +9,6 @@ import pathlib
 import shutil
 import subprocess
 import sys
-import urllib.error
 import urllib.request
 from collections.abc import Iterator
 from typing import Any
@@ -43,28 +41,6 @@ def need(command: str, *packages: str) -> None:
     done = subprocess.run(words, env=environment, stdout=subprocess.DEVNULL)
     if done.returncode:
         sys.exit(f"{' '.join(words)}: status {done.returncode}")
-
-
-def sent(method: str, place: str, body: str | None, revision: str = "") -> tuple[int, Any]:
-    """A change by Part 4, with its status and its answer."""
-    headers = {"Content-Type": "application/geo+json", **({"If-Match": revision} if revision else {})}
-    request = urllib.request.Request(place, body.encode() if body else None, headers, method=method)
-    try:
-        with urllib.request.urlopen(request, timeout=120) as answer:
-            return answer.status, json.load(answer)
-    except urllib.error.HTTPError as fault:
-        return fault.code, json.load(fault)
-
-
-def first_map(source: pathlib.Path, folder: pathlib.Path, program: str | pathlib.Path | None, *words: str) -> str:
-    """Makes the stores of a map in a folder by `./overlay`, in one of its own that is called after the map; what that
-    says of it."""
-    given = [sys.executable, TOP / "overlay", source, "--folder", folder, "--only-make", *words]
-    given += ["--program", program] if program else []
-    done = subprocess.run([str(word) for word in given], capture_output=True, text=True, check=False)
-    if done.returncode:
-        sys.exit(f"overlay {source}: status {done.returncode}, {done.stderr}")
-    return done.stderr
 
 
 def iceland(folder: pathlib.Path, program: str) -> pathlib.Path:

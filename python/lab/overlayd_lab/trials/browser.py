@@ -29,7 +29,7 @@ from selenium.webdriver.common.actions.action_builder import ActionBuilder
 from selenium.webdriver.support.ui import WebDriverWait
 
 from overlayd import program as overlay_client
-from overlayd_lab import TOP, web_front
+from overlayd_lab import web_front
 from overlayd_lab.counting import Tries, Words
 from overlayd_lab.web_front import asked
 
@@ -387,66 +387,6 @@ def read_only(browser: Browser, address: str, tries: Tries) -> None:
     tries.that("version 4" in told(browser, "status"), "it tells the file's version")
 
 
-POPUP = "document.querySelector('.leaflet-popup .feature h3')?.textContent ?? ''"
-RALEIGH = (-78.64, 35.77)  # in Wake
-
-
-def click_place(browser: Browser, lng: float, lat: float) -> None:
-    """Clicks on the map at a place of the world."""
-    x, y = browser.value(
-        f"(() => {{ const at = overlayPage.plot.map.latLngToContainerPoint([{lat}, {lng}]), "
-        "box = document.getElementById('map').getBoundingClientRect(); return [box.left + at.x, box.top + at.y]; })()"
-    )
-    browser.click(x, y)
-
-
-def found_by(browser: Browser, text: str) -> list[str]:
-    """What the box of the page lists for a text."""
-    browser.value(
-        f"(() => {{ const box = document.getElementById('find').elements.text; box.value = {json.dumps(text)}; "
-        "box.dispatchEvent(new Event('input')); })()"
-    )
-    return list(browser.value("[...document.querySelectorAll('#found button')].map(one => one.textContent)"))
-
-
-def features(browser: Browser, address: str, picture: pathlib.Path, size: tuple[int, int], tries: Tries) -> None:
-    """A map's features by a click and by the box that finds them."""
-    browser.open(address)
-    browser.resize(*size)
-    browser.until(READY)
-    looked_over(browser, "a map's features", tries)
-    listed = found_by(browser, "wa")
-    tries.that(sorted(listed[:5]) == ["Wake", "Warren", "Washington", "Watauga", "Wayne"] and len(listed) == 8
-               and all("wa" in one for one in listed[5:]), f"`wa` finds {listed}")
-    looked_over(browser, "the list of what is found", tries)
-    tries.that(found_by(browser, "nowhere") == [], "`nowhere` finds nothing")
-    found_by(browser, "ashe")
-    browser.value("document.getElementById('find').requestSubmit()")
-    browser.until(f"({POPUP}) === 'Ashe'")
-    browser.until("!document.querySelector('.leaflet-pan-anim, .leaflet-zoom-anim')")
-    looked_over(browser, "a feature that was found", tries)
-    browser.value("document.getElementById('find').elements.text.value = ''")
-    browser.open(address)
-    browser.resize(*size)
-    browser.until(READY)
-    click_place(browser, *RALEIGH)
-    browser.until(f"({POPUP}) === 'Wake'")
-    rows = browser.value("[...document.querySelectorAll('.leaflet-popup tr')].map(row => row.innerText)")
-    tries.that(rows == ["name\tWake"], f"a click at Raleigh tells {rows}")
-    looked_over(browser, "a feature that was clicked", tries)
-    picture.write_bytes(browser.picture())
-
-
-def visit_features(browser: Browser, words: argparse.Namespace, folder: pathlib.Path, tries: Tries) -> None:
-    """Looks at a front over North Carolina, as wide as on a desk and as narrow as on a telephone."""
-    web_front.first_map(TOP / "tools/data/north_carolina.geojson", folder, words.program)
-    pictures, running = words.pictures or folder, {"program": words.program, "python": words.python}
-    with web_front.front("--store", folder / "north_carolina.overlay/north_carolina.db", **running) as address:
-        features(browser, address, pictures / "features.png", SIZE, tries)
-        features(browser, address, pictures / "features-narrow.png", NARROW, tries)
-        browser.leave()
-
-
 def visits(browser: Browser, words: argparse.Namespace, folder: pathlib.Path, tries: Tries) -> None:
     """Looks at fronts over three stores, one of them by a front that reads too."""
     pictures, running = words.pictures or folder, {"program": words.program, "python": words.python}
@@ -467,7 +407,6 @@ def visits(browser: Browser, words: argparse.Namespace, folder: pathlib.Path, tr
     with web_front.front("--store", store, **running) as address:
         read_only(browser, address, tries)
         browser.leave()
-    visit_features(browser, words, folder, tries)
     # What was refused on purpose stands in the log as well.
     faults = [one for one in browser.faults if not re.search("status of 4(00|04|09)", one)]
     tries.that(not faults, f"no fault in the browser's log: {faults}")

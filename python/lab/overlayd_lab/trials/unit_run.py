@@ -26,10 +26,9 @@ import tempfile
 import time
 from collections.abc import Iterator
 
-from overlayd_lab import TOP
 from overlayd_lab.counting import Tries
 from overlayd_lab.trials.clean_root import Done, copied_root, made_release, words_of
-from overlayd_lab.web_front import first_map
+from overlayd_lab.web_front import PROGRAM, iceland
 
 WANTED = ["systemd", "systemd-sysv", "dbus"]
 SECONDS = 60
@@ -136,15 +135,15 @@ def with_systemd(root: pathlib.Path) -> pathlib.Path:
 
 
 def made_map(folder: pathlib.Path, programs: pathlib.Path | None) -> list[pathlib.Path]:
-    """North Carolina in a store, with what lies beside it."""
-    first_map(TOP / "tools/data/north_carolina.geojson", folder, programs and programs / "overlay_live")
-    return [folder / f"north_carolina.overlay/north_carolina.{end}" for end in ("db", "scale.json", "features.json")]
+    """Iceland in a store, with what lies beside it."""
+    store = iceland(folder, str(programs / "overlay_live" if programs else PROGRAM))
+    return [store, store.with_suffix(".scale.json")]
 
 
 def put(files: list[pathlib.Path], root: pathlib.Path, name: str) -> None:
     """Puts a map under a name where the machine finds it."""
     for path in files:
-        shutil.copy(path, root / "root" / path.name.replace("north_carolina", name))
+        shutil.copy(path, root / "root" / path.name.replace("map", name))
 
 
 def try_reading(tries: Tries, one: Machine) -> None:
@@ -155,8 +154,8 @@ def try_reading(tries: Tries, one: Machine) -> None:
     if not one.until(address):
         sys.exit(one.ran("journalctl", "--no-pager", "-u", "overlay-web@city").stdout)
     tries.that(True, "its front answers")
-    _, text = one.asked("GET", f"{address}collections/north_carolina/items?limit=1000")
-    tries.that(len(json.loads(text)["features"]) == 100, "it serves 100 features")
+    _, text = one.asked("GET", f"{address}collections/both/items")
+    tries.that(len(json.loads(text)["features"]) == 2, "it serves 2 polygons")
     who = one.ran("stat", "--format", "%u", f"/proc/{one.shown('overlay-web@city', 'MainPID')}").stdout.strip()
     tries.that(who not in ("", "0"), f"it runs as the user {who}")
     told = one.ran("systemd-analyze", "security", "overlay-web@city.service").stdout.strip().splitlines()[-1]
@@ -166,22 +165,20 @@ def try_reading(tries: Tries, one: Machine) -> None:
 
 def try_writing(tries: Tries, one: Machine) -> None:
     """A map that is changed, while its front is killed."""
-    unit, items = "overlay-web@parcels", "http://127.0.0.1:8081/collections/north_carolina/items"
+    unit, layers = "overlay-web@parcels", "http://127.0.0.1:8081/collections"
     words = 'echo WORDS=\\"--port 8081 --writable\\" > /etc/default/overlay-web@parcels'
     one.ran("sh", "-c", f"{words}; cp /root/parcels.* {PLACE}; chown --reference={PLACE}/. {PLACE}/parcels.*")
     one.ran("systemctl", "start", unit)
-    tries.that(one.until(items), "a second unit, with words of its own, answers")
-    feature = json.loads(one.asked("GET", f"{items}/1")[1])
-    feature["properties"]["name"] = "Changed"
-    tries.that(one.asked("PUT", f"{items}/1", json.dumps(feature))[0] == 200, "it takes a change")
-    ring = [[-80, 35], [-79.9, 35], [-79.9, 35.1], [-80, 35]]
-    new = {**feature, "geometry": {"type": "Polygon", "coordinates": [ring]}}
-    tries.that(one.asked("POST", items, json.dumps(new))[0] == 201, "and a new feature")
+    tries.that(one.until(layers), "a second unit, with words of its own, answers")
+    ring = [[-19, 65], [-18.9, 65], [-18.9, 65.1], [-19, 65]]
+    plot = {"type": "Polygon", "coordinates": [ring]}
+    tries.that(one.asked("PUT", f"{layers}/plot", json.dumps(plot))[0] == 200, "it takes a new layer")
+    rest = {"definition": "iceland_50m - plot"}
+    tries.that(one.asked("PUT", f"{layers}/rest", json.dumps(rest))[0] == 200, "and a definition over it")
     one.ran("systemctl", "kill", "--signal=KILL", unit)
-    tries.that(one.until(items) and one.shown(unit, "NRestarts") == "1", "killed, it comes up again")
-    found = json.loads(one.asked("GET", f"{items}?limit=1000")[1])["features"]
-    names = [each["properties"]["name"] for each in found]
-    tries.that(len(names) == 101 and names.count("Changed") == 2, f"with what was answered: {len(names)} features")
+    tries.that(one.until(layers) and one.shown(unit, "NRestarts") == "1", "killed, it comes up again")
+    found = {each["id"] for each in json.loads(one.asked("GET", layers)[1])["collections"]}
+    tries.that({"plot", "rest"} < found, f"with what was answered: {found}")
     one.ran("systemctl", "stop", unit)
     told = one.shown(unit, "Result"), one.shown(unit, "ExecMainStatus")
     tries.that(told == ("success", "0"), f"stopped, it ends with {told}")

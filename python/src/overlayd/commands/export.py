@@ -1,9 +1,8 @@
-"""Writes layers, or the features of a map, as GeoJSON, in coordinates of the world where a scale is there.
+"""Writes layers as GeoJSON, in coordinates of the world where a scale is there.
 
     overlay export --store map.db > map.geojson
     overlay export --store map.db --layer taken --parts > taken.geojson
-    overlay export --store nc.db --features > counties.geojson
-    overlay export --store nc.db --features --output counties.gpkg
+    overlay export --store map.db --output map.gpkg
 
 Each layer is a feature with a MultiPolygon, or with --parts each of its polygons one with a Polygon: outer rings
 counter-clockwise, holes clockwise. Its properties are `layer`, `expression` (null for a base layer), `version`, and its
@@ -12,19 +11,11 @@ area in the world's unit, rounded in `area` and, as a fraction, in `area_exact`:
 comes back from them through overlay import with the same scale. Where no coordinate system is known, what is written
 says that it is of a plane of its own: GeoJSON that says nothing is of degrees.
 
---features writes the features of the source in the place of layers, by NAME.features.json beside the store NAME.*:
-each with its own properties, its id, its outline whole, also where it is in several layers or parts,
-and with its area, which is called `area_` where the source has an `area`. An outline that crosses or touches itself is
-written as the boundary of its even-odd inside.
-
 --output writes the file whole or not at all: GeoJSON by the names .geojson and .json, or without an end, a GeoPackage
-(.gpkg) or a FlatGeobuf (.fgb); a name with another end is refused. Whole numbers are the ids of features in a
-GeoPackage too; other ids, and those of a FlatGeobuf, are a column `id` of it, or `id_` where the source has an `id`. A
-property whose name differs from another one's in case alone, as no two columns do, is a column with `_` after its name,
-and a line on standard error says so. What is read, and NAME.scale.json, NAME.features.json and NAME.names.csv of a
-store, are not written over.
+(.gpkg) or a FlatGeobuf (.fgb); a name with another end is refused. What is read, and NAME.scale.json of a store, are
+not written over.
 
-Status 0: all layers or features are written; 1: the store cannot be read, a layer has no rings to give, or the output
+Status 0: all layers are written; 1: the store cannot be read, a layer has no rings to give, or the output
 cannot be written; 2: a word is refused.
 """
 
@@ -41,10 +32,8 @@ from ..files import coordinate_systems, gdal_files, writing
 from ..geometry import areas
 from ..geometry.areas import Ring
 from ..grid import scale as scales
-from ..program_files import found_program
-from ..store import feature_texts, keeping, layers
-from ..store.features import FeaturesFault, beside, read, resolved
-from ..store.opening import is_store, layers_of, opened
+from ..store import keeping, layers
+from ..store.opening import is_store
 from ..words import FILE, Words, flag, option, subcommand
 from . import store_layers
 from .store_layers import Map
@@ -93,27 +82,6 @@ def text_of(found: Map, words: Words) -> str:
             f'{coordinate_systems.member(found.scale.crs)}"features": [\n{body}\n]}}\n')
 
 
-def feature_collection(words: Words) -> tuple[str, scales.Scale]:
-    """The features of the source, as they are in a store."""
-    if words.layer or words.top:
-        raise click.UsageError("--features are those of a store, all of them")
-    scale, file = store_layers.scale_of(words)
-    program = words.program or found_program()
-    try:
-        path = beside(words.store)
-        table = read(path)
-        with opened(program, words.store) as session:
-            held = layers_of(session).base
-        table = resolved(table, held, path)
-    except FeaturesFault as fault:
-        raise Unusable(str(fault)) from fault
-    if file:
-        print(f"coordinates of the world by {file}", file=sys.stderr)
-    body = ",\n".join(feature_texts.texts(table, held, scale, program))
-    return (f'{{"type": "FeatureCollection", "name": {json.dumps(table.collection)},\n'
-            f'{coordinate_systems.member(scale.crs)}"features": [\n{body}\n]}}\n'), scale
-
-
 def write(found: Map, words: Words) -> int:
     if words.top:
         found.columns = {name: found.columns[name] for name in found.layers.unnamed() if name in found.columns}
@@ -122,14 +90,12 @@ def write(found: Map, words: Words) -> int:
 
 
 def put(text: str, scale: scales.Scale, words: Words) -> None:
-    """Writes the collection to where it goes, and says which properties have another name there."""
+    """Writes the collection to where it goes."""
     try:
         if words.output is None:
             sys.stdout.write(text)
         elif is_gdals(words.output):
-            for name, column in gdal_files.write(words.output, text, scale.crs).items():
-                print(f"{words.output}: the property {name} is its column {column}, as another differs in case alone",
-                      file=sys.stderr)
+            gdal_files.write(words.output, text, scale.crs)
         else:
             writing.write_all({words.output: text.encode()})
     except gdal_files.GdalFault as fault:
@@ -171,17 +137,9 @@ def check_output(words: Words) -> None:
 @subcommand(
     __doc__, *store_layers.words(many=True), flag("--top", "only layers that no definition names"),
     flag("--parts", "a feature for each polygon"),
-    flag("--features", "the features of the source with all their properties"),
     flag("--exact", "area_exact in each feature, however many digits it has"),
     option("--output", "in the place of standard output: .geojson, .gpkg or .fgb", FILE, metavar="FILE"),
     *store_layers.scale_words())
 def command(words: Words) -> int:
     check_output(words)
-    if not words.features:
-        return store_layers.run(words, write, many=True)
-    try:
-        put(*feature_collection(words), words)
-    except Unusable as fault:
-        print(fault, file=sys.stderr)
-        return 1
-    return 0
+    return store_layers.run(words, write, many=True)

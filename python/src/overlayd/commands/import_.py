@@ -2,7 +2,6 @@
 
     overlay import map.geojson --fit --name-by name --output map.txt
     overlay import boroughs.geojson --fit --split --name-by BoroName --output ny.txt
-    overlay import counties.geojson --fit --coded --name-by NAME --output nc.txt
     overlay import plan.wkt --factor 100 --origin 500000 4600000 > plan.txt
 
 A coordinate x becomes the whole number nearest to (x - X) * FACTOR, the greater one of two that are as near. Of more
@@ -23,26 +22,21 @@ by more than a 1000th of the extent, or are out of range, nothing is written, an
           Price: LOCATE says `edge` on a chord, too.
 --union   where polygons of one layer overlap, what they cover is inside: those that overlap are in layers of their
           own, joined by |. Without it a layer is even-odd.
---coded   features are numbered from 1, and layer b0, b1 .. holds those whose number has that bit, so that 7 layers
-          carry 127 features. NAME.names.csv has numbers, names, the expression of each feature, and areas;
-          overlay which finds names by it. Where features overlap their numbers are mixed: --check says which pairs
-          do, and the area that they have in common, the largest first, as the program has it exactly.
---output  NAME.txt is the script, NAME.scale.json says what its numbers mean, for the other tools and for web/, and
-          NAME.features.json has the features of GeoJSON with all their properties (docs/FEATURES.md).
+--output  NAME.txt is the script, NAME.scale.json says what its numbers mean, for the other tools and for web/.
           Where one store of 32 layers does not suffice, NAME.1.txt, NAME.2.txt .. are each the script of a store.
 
-Status 0: all was written; 1: something was refused, the rest was written, features overlap, no layer came of the files
-and nothing was written, or standard output or an open standard error cannot be written; 2: a file could not be read,
-the factor does not fit, no feature has the property of --name-by, or what would be written over is a store, an input,
-a scale, names or features that a store beside it needs, or a file that was not named and belongs to no script of
---output, and nothing was written.
+Many features with all that they have are a register's (overlay register): a store has layers alone.
+
+Status 0: all was written; 1: something was refused, the rest was written, no layer came of the files and nothing was
+written, or standard output or an open standard error cannot be written; 2: a file could not be read, the factor does
+not fit, no feature has the property of --name-by, or what would be written over is a store, an input, a scale that a
+store beside it needs, or a file that was not named and belongs to no script of --output, and nothing was written.
 """
 
 import re
 import sys
 import unicodedata
 from collections.abc import Callable
-from dataclasses import replace
 
 import click
 
@@ -50,11 +44,10 @@ from .. import progress
 from ..files import coordinate_systems, fitting, rounding
 from ..grid import limits
 from ..store import layering
-from ..store.describing import counted
 from ..store.layering import Group, Layout, Store
-from ..words import CRS, FILE, NUMBER, PROGRAM, Words, argument, flag, option, subcommand, words_of
+from ..words import CRS, FILE, NUMBER, Words, argument, flag, option, subcommand
 from .import_reading import NAMED_MAX, Reader, Stopped, check_scale, crs_for, read_shapes, scale_for
-from .import_writing import lines_of, one_store, overlaps, write_files
+from .import_writing import lines_of, one_store, write_files
 
 
 def fitted_name(wish: str) -> str:
@@ -80,7 +73,7 @@ class Planner:
         given = [(self.names.give(fitted_name(group.wish)), group) for group in groups]
         layouts = []
         for name, group in given:
-            layout = replace(layering.split(name, group.polygons, self.names, self.words.union), group=group)
+            layout = layering.split(name, group.polygons, self.names, self.words.union)
             reason = self.unfit(layout, group)
             if reason:
                 self.refuse(f"layer {name}", reason)
@@ -110,37 +103,6 @@ class Planner:
             self.notes.append(f"layer {layout.name}: {pairs} pairs of polygons with overlapping boxes; where polygons "
                               "of one layer overlap, the layer is out (even-odd), or in with --union")
 
-    def coded(self, groups: list[Group]) -> list[Store]:
-        """Groups as numbered features."""
-        kept = []
-        for group in groups:
-            if layering.bit_layers([group], self.words.split):
-                kept.append(group)
-            else:
-                more = "" if self.words.split else "; --split writes them exactly, over several layers"
-                self.refuse(group.wish, f"too many steps: {group.steps()}{more}")
-        with progress.bar("laying out features", len(kept)) as bar:
-            stores = []
-            for store in layering.coded(kept, self.words.split):
-                stores.append(store)
-                bar.update(len(store.features))
-        for store in stores:
-            self.tell_coded(store)
-        return stores
-
-    def tell_coded(self, store: Store) -> None:
-        tally = rounding.Tally()
-        for feature in store.features:
-            tally.add(feature.tally)
-        steps = [sum(rounding.steps_of(polygons) for _, polygons in layout.base) for layout in store.layouts]
-        chords = sum(layout.chords for layout in store.layouts)
-        on_chords = f"; LOCATE says edge on {chords} chords" if chords else ""
-        names = " to ".join(dict.fromkeys([store.layouts[0].name, store.layouts[-1].name]))
-        span = " to ".join(map(str, sorted({min(steps), max(steps)})))
-        self.notes.append(
-            f"{counted(len(store.features), 'feature')} in {'layers' if store.layouts[1:] else 'layer'} {names}, "
-            f"{span} steps each, {counted(store.count(), 'layer')} in all{on_chords}; {tally.text()}")
-
 
 def check_words(words: Words) -> None:
     """Refuses words that do not go together."""
@@ -148,39 +110,27 @@ def check_words(words: Words) -> None:
         raise click.UsageError("a factor is greater than 0")
     if words.scale and (words.fit or words.factor or words.factor_y or words.origin):
         raise click.UsageError("--scale and --fit, a factor or an origin are two answers")
-    if words.coded and (words.union or not words.output):
-        raise click.UsageError("--coded needs --output NAME.txt, as it writes names too, and no --union")
-    if words.check and not words.coded:
-        raise click.UsageError("--check is of --coded features")
     if words.output and (not words.output.name or words.output.is_dir()):
         raise click.UsageError(f"--output: {words.output} is a folder, and no file")
 
 
-def words_for(files: list[str], **given: object) -> Words:
-    """The words of a call in this process."""
-    words = words_of(command, ["--", *files])
-    vars(words).update(given)
-    return words
-
-
 def work(words: Words, say: Callable[[str], None]) -> int:
     """Reads, lays out and writes; the status."""
-    shapes, names, described = read_shapes(words)
+    shapes, names = read_shapes(words)
     box = fitting.box_of(shapes)
     scale = scale_for(words, box, crs_for(words, names, box))
     if scale.crs is None and coordinate_systems.UNKNOWN in names:
         say("the coordinate system is unknown, as the file does not say it: --crs names it, as EPSG:25832")
     reader = Reader(scale, words.fit)
     for shape in progress.bar("rounding features", len(shapes), shapes):
-        reader.take(shape, words.coded)
+        reader.take(shape)
     given = words.fit or words.scale or words.factor or words.factor_y
     notes = check_scale(reader, box, scale, bool(given))
     planner = Planner(words, reader.refuse)
-    groups = list(reader.groups.values())
-    stores = planner.coded(groups) if words.coded else planner.named(groups)
+    stores = planner.named(list(reader.groups.values()))
     written = [] if stores else ["no layer: nothing is written"]
     if words.output and stores:
-        written = write_files(words, stores, scale, described)
+        written = write_files(words, stores, scale)
     else:
         stores = one_store(stores, reader.refuse)
         for line in (line for store in stores for line in lines_of(store)):
@@ -190,8 +140,7 @@ def work(words: Words, say: Callable[[str], None]) -> int:
         say(f"{fitting.words(scale.factor, scale.origin)}; {moved if reader.furthest() else 'nothing is rounded'}")
     for text in planner.notes + (reader.notes if stores else shortened(reader.notes)) + notes + written:
         say(text)
-    overlap = overlaps(words, stores, scale, say) if words.check else 0
-    return 1 if reader.refusals or not stores else overlap
+    return 1 if reader.refusals or not stores else 0
 
 
 def shortened(notes: list[str]) -> list[str]:
@@ -213,8 +162,6 @@ def shortened(notes: list[str]) -> list[str]:
            metavar="PROPERTY"),
     flag("--split", "spread what is too long for a layer over several"),
     flag("--union", "polygons of one layer may overlap"),
-    flag("--coded", "number the features over few layers (needs --output)"),
-    flag("--check", "say which features of --coded overlap, and by how much"), PROGRAM,
     option("--output", "in the place of standard output", FILE, metavar="NAME.txt"),
     option("--title", "for the scale's file (default: the output's name)"),
     option("--unit", "of the world's numbers (default: that of the coordinate system, else 1)"),

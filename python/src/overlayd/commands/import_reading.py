@@ -10,7 +10,6 @@ from ..files.map_reading import Refused, Shape
 from ..geometry import wkt
 from ..grid import scale as scales
 from ..grid.scale import Scale
-from ..store.describing import Described
 from ..store.layering import Group
 from ..store.opening import begins_as_store
 from ..words import Words
@@ -27,7 +26,7 @@ class Reader:
 
     def __init__(self, scale: Scale, fitted: bool) -> None:
         self.rounding, self.fitted = rounding.Rounding(scale), fitted
-        self.groups: dict[object, Group] = {}
+        self.groups: dict[str | int, Group] = {}
         self.notes: list[str] = []
         self.refusals = self.collapsed = self.outside = 0
 
@@ -39,8 +38,8 @@ class Reader:
         self.outside += reason.startswith(rounding.OUT_OF_RANGE)
         self.notes.append(f"{'left out' if is_small and self.fitted else 'refused'}: {label}: {reason}")
 
-    def take(self, shape: Shape, by_feature: bool) -> None:
-        """Takes in a shape, for the layer that it asks for, else for that of its file or its feature."""
+    def take(self, shape: Shape) -> None:
+        """Takes in a shape, for the layer that it asks for, else for that of its file."""
         tally, found, before = rounding.Tally(), [], self.collapsed
         try:
             for polygon in shape.polygons():
@@ -55,9 +54,8 @@ class Reader:
                 self.refuse(shape.label, "all of it is too small for this scale")
             self.notes.append(f"nothing to write: {shape.label}")
             return
-        key: object = shape.wish or ((shape.file, shape.feature) if by_feature else shape.file)
-        wish = shape.wish or (shape.feature if by_feature else shape.stem)
-        self.groups.setdefault((type(key), key), Group(wish)).add(found, tally, (shape.file, shape.feature))
+        key = shape.wish or shape.file
+        self.groups.setdefault(key, Group(shape.wish or shape.stem)).add(found, tally)
 
     def furthest(self) -> Fraction:
         return max((group.tally.furthest for group in self.groups.values()), default=Fraction(0))
@@ -72,10 +70,9 @@ def content(name: str, layer: str | None) -> str:
     return data.decode("utf-8-sig")
 
 
-def read_shapes(words: Words) -> tuple[list[Shape], set[str | None], Described]:
-    """The shapes of all files, the names of their coordinates, and what files say of their features."""
+def read_shapes(words: Words) -> tuple[list[Shape], set[str | None]]:
+    """The shapes of all files, and the names of their coordinates."""
     shapes, systems, properties = list[Shape](), dict[int, str | None](), dict[str, None]()
-    described: Described = {}
     for number, name in enumerate(words.files):
         stem = words.name or ("L" if name == "-" else pathlib.Path(name).stem)
         source = map_reading.Source(number, name, stem, words.name_by)
@@ -86,10 +83,9 @@ def read_shapes(words: Words) -> tuple[list[Shape], set[str | None], Described]:
         shapes += own
         systems[number] = crs
         properties |= source.properties
-        described |= {(number, called): one for called, one in source.described.items()}
     if shapes and words.name_by is not None and words.name_by not in properties:
         raise Stopped(f"--name-by {words.name_by}: no feature has this property; {listed(list(properties))}")
-    return shapes, {*systems.values(), *degrees_beside(shapes, systems)}, described
+    return shapes, {*systems.values(), *degrees_beside(shapes, systems)}
 
 
 def degrees_beside(shapes: list[Shape], systems: dict[int, str | None]) -> set[str | None]:

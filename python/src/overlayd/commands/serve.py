@@ -56,10 +56,7 @@ def hosts_of(words: Words) -> set[str]:
     flag("--create", "make the store anew"),
     option("--scale", "what its whole numbers mean (default: NAME.scale.json beside the store, if it is there)", FILE,
            metavar="FILE"),
-    option("--features", "the features of the map that its layers hold (default: NAME.features.json beside the store, "
-           "if it is there)", FILE, metavar="FILE"),
-    flag("--no-features", "serve layers alone"), flag("--as-stored", "transform nothing"),
-    flag("--parts", "show the layers that are parts of features as well"),
+    flag("--as-stored", "transform nothing"),
     flag("--writable", "let the page and PUT, DELETE and POST change layers"),
     option("--host", "the address to listen on (default 127.0.0.1)", default="127.0.0.1"),
     option("--port", "the port; 0 for one that is free (default 8080)", int, default=8080),
@@ -71,7 +68,7 @@ def hosts_of(words: Words) -> set[str]:
 def command(words: Words) -> int:
     if words.writable and not is_loopback(words.host):
         raise click.UsageError("--writable is for the loopback alone")
-    if words.register and (words.store or words.create or words.scale or words.features):
+    if words.register and (words.store or words.create or words.scale):
         raise click.UsageError("a register or a --store, and not both")
     if not words.writable and (words.create or not (words.store or words.register)):
         raise click.UsageError("without --writable it reads: name a register or a --store that is there")

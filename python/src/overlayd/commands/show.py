@@ -1,243 +1,157 @@
-"""Makes a store of a map, starts a web front over it, and prints its address.
+"""Makes a register of maps, works out what their features overlap, and shows it in a browser by a front of its own.
 
     overlay show city.geojson
     overlay show parcels.geojson --with zones.geojson
-    overlay show city.gpkg --writable --folder maps
+    overlay show city.gpkg --output land.gpkg --writable
 
-The features of one map are numbered over few layers and served with their names and properties, called by the property
-`name`, or by the first that tells them apart; --name-by says another. --with adds further maps on the same scale: each
-is a layer of its file's name then, and `both` is what all of them have in common.
+Of each map the pairs of features that overlap are in a table, with their areas, and the gaps between the first map's
+features are in the table of violations; of each map of --with there is a table of its pairs with the first, and `both`
+is what all maps have in common. Standard error says how many there are, and which features have an outline that none
+can be worked out of. --name-by names the property that tables call features by.
 
-It works in a folder of its own, CITY.overlay in --folder (default: where it is called), and writes nothing elsewhere:
-CITY.txt, CITY.db and what goes with them lie there. A folder of that name with files in it that overlay did not make,
-or a link, is refused and left as it is. A store that is there is served as it is; --again makes it anew, unless a
-program has it open, as a running front. A store of another map of the same name, or one without the CITY.txt that it
-was made of, is refused and left as it is. Where one store does not suffice each has a front of its own. A browser is
+The register is a GeoPackage in a temporary folder, which goes at the end. With --output it stays, and where the file is
+there already it is shown as it is: `overlay register` keeps and changes it, `overlay serve` serves it. A browser is
 opened where there is a screen, but for --no-browser. Ctrl-C ends the front.
 
-Status 0: ended by Ctrl-C or SIGTERM, or all of it made by --only-make; 1: a feature was refused, which is reported, and
-the rest made by --only-make, a line was refused, a program is not there, another has the store, or a front ended by a
-fault; 2: wrong words, a file that cannot be read, or one that would be written over.
+Status 0: ended by Ctrl-C or SIGTERM, or all of it made by --only-make; 1: a program is not there, a file cannot be
+written, or the front ended by a fault; 2: wrong words, or a map that cannot be read.
 """
+
+from __future__ import annotations
 
 import contextlib
 import json
 import os
-import pathlib
-import re
-import shutil
 import signal
+import sqlite3
 import subprocess
-import sys
-import threading
+import tempfile
 import webbrowser
-from collections.abc import Iterable, Mapping
+from pathlib import Path
+from typing import Any
 
 import click
 
 from .. import ending
 from ..ending import Unusable
-from ..program import Ended, Layer, Refused, Server
-from ..program_files import OVERLAY, found_program
-from ..store.describing import Described
-from ..store.layers import Layers
-from ..words import CRS, FILE, PROGRAM, Words, argument, flag, option, subcommand
-from . import import_
-from .import_reading import Stopped, read_shapes
-from .show_folder import (
-    MADE_OF, Unmade, check_maps, check_own, clear_left_over, hold, is_own, put, script_in, scripts_of, stores_of,
-    unfinished,
-)
+from ..files import gdal_files, map_reading
+from ..geometry import wkt
+from ..program_files import FEATURES, OVERLAY
+from ..register import sources
+from ..register.beginning import begun, standing
+from ..register.filling import keep
+from ..register.model import Kept, Kind, Must, Refused
+from ..register.ruling import add_rule
+from ..words import CRS, FILE, Words, argument, flag, option, program, subcommand
+from .register import ready, say
 
-FRONT = [*OVERLAY, "serve"]
-NAMED = "both"
-DEVICE = "error 30"  # that a file could not be read or written
 ENDING = 60.0  # seconds that a front has to end
 
 
-# ---- making
-
-
-def name_property(described: Described) -> str | None:
-    """The property that features are called by: `name`, or the first text that each has and that tells them apart."""
-    rows = [one.properties for one in described.values()]
-    names = [name for name in dict.fromkeys(name for row in rows for name in row)
-             if all(isinstance(row.get(name), str) for row in rows)]
-    plain = [name for name in names if name.casefold() == "name"]
-    apart = [name for name in names if len({row[name] for row in rows}) == len(rows)]
-    called = [name for name in apart if "name" in name.casefold()]
-    return next(iter([*plain, *called, *apart]), None)
-
-
-def import_words(words: Words, output: pathlib.Path) -> Words:
-    """The words for overlay import."""
-    maps = ["./-" if str(path) == "-" else str(path) for path in (words.map, *words.others)]
-    found = import_.words_for(maps, fit=True, split=True, output=output, crs=words.crs, coded=not words.others,
-                              source_layer=words.source_layer, name_by=words.name_by)
-    if not words.others and words.name_by is None:
-        _, _, described = read_shapes(found)
-        found.name_by = name_property(described)
-    return found
-
-
-def made_scripts(words: Words, output: pathlib.Path) -> tuple[list[pathlib.Path], int]:
-    """The scripts of a map, one for each store, and the status: 1 where something of the map was refused."""
-    def say(text: str) -> None:
-        print(text.replace(f"{output.parent}/", "").partition("; overlayd --store ")[0], file=sys.stderr)
-
+def source_of(path: Path, words: Words, folder: Path) -> str:
+    """A map as GDAL reads it: the file itself, but Well-Known Text, and one whose system is named here, as GeoJSON."""
     try:
-        status = import_.work(import_words(words, output), say)
-    except Stopped as fault:
-        raise Unmade(2, str(fault)) from fault
-    scripts = scripts_of(output)
-    if not scripts:
-        raise Unmade(max(status, 1), f"{words.map}: no store is made")
-    if words.others:
-        define_common(words, scripts)
-    paths = json.dumps([str(path.resolve()) for path in (words.map, *words.others)])
-    for script in scripts:
-        script.write_text(f"{MADE_OF}{paths}\n{script.read_text()}")
-    return scripts, status
+        form = gdal_files.form_of(path, gdal_files.begin_of(path))
+        if form and not words.crs:
+            return str(path)
+        text = map_reading.content(str(path), words.source_layer).decode("utf-8-sig")
+        value: dict[str, Any] = map_reading.object_of(text) if map_reading.is_geojson(text) else collection_of(text)
+    except (OSError, ValueError, RecursionError, wkt.WktFault) as fault:
+        raise Refused(ending.fault_text(f"{path}: not read", fault)) from fault
+    if words.crs:
+        value["crs"] = {"type": "name", "properties": {"name": words.crs}}
+    elif map_reading.is_geojson(text):
+        return str(path)
+    made = folder / f"{path.stem}.geojson"
+    made.write_text(json.dumps(value, default=float), encoding="utf-8")
+    return str(made)
 
 
-def define_common(words: Words, scripts: list[pathlib.Path]) -> None:
-    """Adds the layer of what all maps have in common, where one store holds all of them."""
-    if len(scripts) > 1:
-        raise Unmade(1, f"{words.map} and {words.others[0]} do not fit into one store: lay them out by overlay import")
-    text = scripts[0].read_text()
-    lines = (line.split(" ", 2) for line in text.splitlines())
-    layers = Layers.of(Layer(name, *((rest, None) if word == "PUT" else (None, rest))) for word, name, rest in lines)
-    names = layers.unnamed()
-    if len(names) > 1 and NAMED not in layers.order:
-        scripts[0].write_text(f"{text}DEFINE {NAMED} = {' & '.join(names)}\n")
+def collection_of(text: str) -> dict[str, Any]:
+    """Well-Known Text as a collection of GeoJSON."""
+    shapes, systems = wkt.read_with_systems(text)
+    outlines = [wkt.polygons_of(kind, coordinates) or [] for kind, coordinates in shapes]
+    found = [{"type": "Feature", "properties": {}, "geometry": {"type": "MultiPolygon", "coordinates": outline}}
+             for outline in outlines]
+    crs = {"crs": {"type": "name", "properties": {"name": f"EPSG:{systems[0]}"}}} if len(systems) == 1 else {}
+    return {"type": "FeatureCollection", **crs, "features": found}
 
 
-def make_store(script: pathlib.Path, program: str) -> None:
-    """A store of a script, beside it."""
-    lines = [line for line in script.read_text().splitlines() if not line.startswith("#")]
-    try:
-        with Server(script.with_suffix(".db"), create=True, program=program) as server:
-            for reply in server.sessions[0].answers([*lines, "SYNC"]):
-                if reply.refusal:
-                    raise reply.refusal
-    except (Refused, Ended) as fault:
-        free = f"; the disk of {script.parent.parent} has {shutil.disk_usage(script.parent).free:,} bytes free"
-        raise Unmade(1, f"{script.name}: {fault}{free if DEVICE in str(fault) else ''}") from fault
+def made(words: Words, file: str, folder: Path) -> None:
+    """Makes the register of the maps, with all that is shown of them."""
+    layers, idents = list[str](), dict[str, str]()
+    for path in (words.map, *words.others):
+        layers += sources.copy(source_of(path, words, folder), file, words.source_layer and [words.source_layer])
+    if words.name_by:
+        idents = dict.fromkeys(layers, words.name_by)
+    begun(file, layers, words.grid, idents, True, say)
+    register, own = ready(file, words.program)
+    first, *others = layers
+    kept = [Kept(f"overlaps_{place}", Kind.CHECK, name, name) for place, name in enumerate(layers, 1)]
+    kept += [Kept(f"pairs_{place}", Kind.PAIRS, first, name) for place, name in enumerate(others, 2)]
+    if others:
+        kept.append(Kept("both", Kind.DERIVE, expression=" & ".join(f'"{name}"' for name in layers)))
+    for one in kept:
+        keep(register, one, own, say)
+    add_rule(register, Must.NOT_HAVE_GAPS, first, None, own, say=say)
+    say("\n".join(standing(register)))
 
 
-def stores_for(words: Words, program: str) -> tuple[list[pathlib.Path], int]:
-    """The stores of a map, and the status of making them."""
-    stem = "_and_".join(re.sub(r"[^A-Za-z0-9]+", "_", path.stem).strip("_") or "map"
-                        for path in (words.map, *words.others))
-    own = words.folder / f"{stem}.overlay"
-    check_own(own)
-    clear_left_over(words.folder, own)
-    there = stores_of(script_in(own))
-    if there:
-        check_maps(words, there)
-    if there and not words.again:
-        older = any(path.stat().st_mtime > there[0].stat().st_mtime for path in (words.map, *words.others))
-        age = ", older than its map" if older else ""
-        print(f"{', '.join(map(str, there))}: made before{age}, and served as it is; --again makes it anew",
-              file=sys.stderr)
-        return there, 0
-    place = own if is_own(own) else words.folder
-    if not os.access(place, os.W_OK | os.X_OK):
-        raise Unmade(1, f"{place}: nothing can be written in it; say another --folder")
-    with contextlib.ExitStack() as held:
-        hold(words, own, held)
-        folder = unfinished(place, own, held)
-        scripts, status = made_scripts(words, folder / script_in(own).name)
-        for script in scripts:
-            make_store(script, program)
-        put(words, folder, own, there)
-    return stores_of(script_in(own)), status
-
-
-# ---- showing
-
-
-def has_screen(environment: Mapping[str, str]) -> bool:
-    return bool(environment.get("DISPLAY") or environment.get("WAYLAND_DISPLAY"))
-
-
-def started(words: Words, store: pathlib.Path, port: int,
-            program: str) -> tuple[subprocess.Popen[str], str]:
-    """A front over a store, and the address that it prints when it listens."""
-    given = [*FRONT, "--store", str(store), "--program", program, "--port", str(port)]
-    front = subprocess.Popen(given + ["--writable"] * words.writable, stdout=subprocess.PIPE, text=True,
-                             start_new_session=True)
-    assert front.stdout is not None
-    address = front.stdout.readline().strip()
-    if not address:
-        raise Unmade(1, f"{store}: its front ended with status {front.wait()}")
-    return front, address
-
-
-def end(fronts: Iterable[subprocess.Popen[str]]) -> int:
-    """Ends fronts, and gives the greatest of their statuses. One that does not end is killed."""
-    found = list(fronts)
-    for front in found:
-        if front.poll() is None:
-            front.terminate()
-    for front in found:
-        try:
-            front.wait(ENDING)
-        except subprocess.TimeoutExpired:
-            front.kill()
-    return max((abs(front.wait()) for front in found), default=0)
-
-
-def tell_end(front: subprocess.Popen[str], ended: threading.Event) -> None:
-    front.wait()
-    ended.set()
-
-
-def show(words: Words, stores: list[pathlib.Path], program: str) -> int:
-    """Runs a front for each store until one of them ends, or this is interrupted."""
-    fronts: list[subprocess.Popen[str]] = []
-    ended = threading.Event()
-    signal.signal(signal.SIGTERM, lambda *_: ended.set())
-    signal.signal(signal.SIGINT, lambda *_: ended.set())
-    try:
-        for number, store in enumerate(stores):
-            front, address = started(words, store, words.port + number if words.port else 0, program)
-            fronts.append(front)
+def show(words: Words, file: str) -> int:
+    """Runs a front over the register until it ends, or this is interrupted."""
+    given = [*OVERLAY, "serve", file, "--port", str(words.port), *["--writable"] * words.writable]
+    given += ["--program", words.program] if words.program else []
+    with subprocess.Popen(given, stdout=subprocess.PIPE, text=True, start_new_session=True) as front:
+        for number in (signal.SIGINT, signal.SIGTERM):
+            signal.signal(number, lambda *_: front.terminate())
+        assert front.stdout is not None
+        address = front.stdout.readline().strip()
+        if address:
             print(address, flush=True)
-            threading.Thread(target=tell_end, args=(front, ended), daemon=True).start()
-            if number == 0 and not words.no_browser and has_screen(os.environ):
+            if not words.no_browser and (os.environ.get("DISPLAY") or os.environ.get("WAYLAND_DISPLAY")):
                 webbrowser.open(address)
-        while not ended.wait(1):
-            pass
-    finally:
-        status = end(fronts)
-    return min(1, status)
+        return min(1, abs(front.wait()))
 
 
 @subcommand(
     __doc__, argument("map", FILE, metavar="MAP"),
-    option("--with others", "a further map on the same scale; may be given several times", FILE, metavar="MAP",
-           multiple=True),
+    option("--with others", "a further map; may be given several times", FILE, metavar="MAP", multiple=True),
     option("--name-by", "what the features are called by", metavar="PROPERTY"),
     option("--crs", "the name of the coordinates, where the files do not say it", CRS),
     option("--source-layer", "the layer of files that have several, as GeoPackages", metavar="NAME"),
-    option("--folder", "where the folder of the store is made", FILE, default=pathlib.Path()),
-    flag("--again", "make a store anew though it is there; what was changed in it since is lost"),
-    flag("--writable", "let the page and HTTP change the map"),
-    option("--port", "of the first front; 0 for one that is free (default 8080)", int, default=8080),
-    flag("--no-browser", "open no browser"), flag("--only-make", "make the store, and start no front"), PROGRAM)
+    option("--grid", "the grid, as 0.001 (default: by the maps' own digits)", metavar="UNIT"),
+    option("--output", "where the register stays", FILE, metavar="FILE.gpkg"),
+    flag("--writable", "let HTTP change the map"),
+    option("--port", "of the front; 0 for one that is free (default 8080)", int, default=8080),
+    flag("--no-browser", "open no browser"), flag("--only-make", "make the register of --output, and start no front"),
+    program(FEATURES))
 def command(words: Words) -> int:
-    if words.others and words.name_by:
-        raise click.UsageError("--name-by is for the features of one map, and --with makes each map a layer")
+    if words.only_make and not words.output:
+        raise click.UsageError("--only-make needs --output FILE.gpkg")
     try:
-        program = words.program or found_program()
-        words.folder.mkdir(parents=True, exist_ok=True)
-        stores, status = stores_for(words, program)
-        return status if words.only_make else show(words, stores, program)
-    except Unmade as fault:
-        print(fault, file=sys.stderr)
-        return fault.status
-    except (Unusable, OSError) as fault:
-        print(fault if isinstance(fault, Unusable) else ending.fault_text(fault.filename or "overlay", fault),
-              file=sys.stderr)
-        return 1
+        with tempfile.TemporaryDirectory() as folder:
+            file = words.output or Path(folder, f"{words.map.stem}.gpkg")
+            if file.exists():
+                say(f"{file}: made before, and shown as it is")
+            else:
+                with whole(file):
+                    made(words, str(file), Path(folder))
+            return 0 if words.only_make else show(words, str(file))
+    except Refused as fault:
+        say(str(fault))
+        return 2
+    except (Unusable, sqlite3.Error) as fault:
+        say(str(fault))
+    except OSError as fault:
+        say(ending.fault_text(fault.filename or "overlay", fault))
+    return 1
+
+
+@contextlib.contextmanager
+def whole(file: Path) -> Any:
+    """Takes a file away that is not made to its end."""
+    try:
+        yield
+    except BaseException:
+        file.unlink(missing_ok=True)
+        raise

@@ -12,7 +12,7 @@ from ..ending import Unusable
 from ..grid import scale as scales
 from ..program import Refused, Session
 from ..program_files import found_program
-from ..store import expressions, features
+from ..store import expressions
 from ..store.layers import Columns, Layers, columns_of, digests
 from ..store.opening import layers_of, opened
 from ..words import FILE, NUMBER, PROGRAM, Words, option
@@ -122,10 +122,9 @@ def map_of(words: Words, many: bool = False, grid: GridFor | None = None) -> Map
 
 def other_layers(path: pathlib.Path, layers: Layers, file: pathlib.Path, scale: scales.Scale) -> list[str]:
     """Says where a store has other base layers than those that the scale beside it was written for."""
-    known = features.layers_of(path, layers.base)  # which change with their features
-    own = {name: digest for name, digest in digests(layers.base).items() if name not in known}
+    own = digests(layers.base)
     changed = [[name for name, digest in one.items() if own.get(name, digest) != digest] for one in scale.layers]
-    is_strange = not known and not any(own.keys() & one.keys() for one in scale.layers)
+    is_strange = not any(own.keys() & one.keys() for one in scale.layers)
     if not scale.layers or (not is_strange and [] in changed):
         return []
     names = min(changed, key=len)

@@ -8,7 +8,7 @@ import contextlib
 import json
 import pathlib
 import re
-from collections.abc import Container, Iterator
+from collections.abc import Iterator
 from typing import Any, NamedTuple
 
 from .. import ending
@@ -193,61 +193,16 @@ def check_target(path: pathlib.Path) -> None:
         raise GdalFault(f"{path}: {reason}")
 
 
-def renamed_columns(found: list[Any]) -> dict[str, str]:
-    """Calls properties of features otherwise whose names differ from others in case alone, which no columns of GDAL do;
-    gives what they are called then."""
-    names = dict.fromkeys(name for one in found for name in one["properties"])
-    taken, seen, renamed = {name.casefold() for name in names}, set[bytes](), dict[str, str]()
-    for name in names:
-        key = name.encode("utf-8", "surrogatepass").lower()  # of bytes it is the case of ASCII, as GDAL goes by
-        if key in seen:
-            renamed[name] = free_name(name, taken)
-            taken.add(renamed[name].casefold())
-        seen.add(key)
-    if renamed:
-        for one in found:
-            one["properties"] = {renamed.get(name, name): value for name, value in one["properties"].items()}
-    return renamed
-
-
-def with_ids(path: pathlib.Path, found: list[Any]) -> list[str]:
-    """Makes features of a collection, and gives words for ogr2ogr, so that the file has the ids and all properties of
-    theirs: a GeoPackage has whole numbers as its own ids; other ids, and those of a FlatGeobuf, are a property more."""
-    if not found or not all("id" in one for one in found):
-        return []
-    taken = {name.casefold() for one in found for name in one["properties"]}
-    is_package, whole = path.suffix.lower() == ".gpkg", all(isinstance(one["id"], int) for one in found)
-    if not is_package or not whole:
-        name = free_name("id", taken)
-        for place, one in enumerate(found, 1):  # an id that is a number, else GDAL takes a property `id` for it
-            kept = one["id"] if whole else str(one["id"])
-            one["id"], one["properties"] = place, {name: kept, **one["properties"]}
-    words = ["-preserve_fid", "-lco", f"FID={free_name('fid', taken)}", "-lco",
-             f"GEOMETRY_NAME={free_name('geom', taken)}"]
-    return words if is_package else []
-
-
-def free_name(name: str, taken: Container[str]) -> str:
-    """The name of a further column, with so many `_` after it that no property has it, in whatever case."""
-    while name.casefold() in taken:
-        name += "_"
-    return name
-
-
-def write(path: pathlib.Path, geojson: str, crs: str | None) -> dict[str, str]:
-    """Makes a file of GeoJSON in a coordinate system, or of a plane of its own, whole or not at all. Gives the columns
-    that are not called as the property is."""
+def write(path: pathlib.Path, geojson: str, crs: str | None) -> None:
+    """Makes a file of GeoJSON in a coordinate system, or of a plane of its own, whole or not at all."""
     check_target(path)
-    value = json.loads(geojson)
-    renamed = renamed_columns(value["features"])
-    words = ["-f", WRITTEN[path.suffix.lower()], "-nln", path.stem, *with_ids(path, value["features"])]
+    words = ["-f", WRITTEN[path.suffix.lower()], "-nln", path.stem]
     words += [] if crs == scales.CRS84 else ["-a_srs", crs or coordinate_systems.UNKNOWN]
     source = f"{IN_MEMORY}/source.geojson"
     with by_gdal() as gdal:
-        gdal.FileFromMemBuffer(source, json.dumps(value).encode())
+        gdal.FileFromMemBuffer(source, geojson.encode())
         try:
             data = translated(gdal, gdal.OpenEx(source, gdal.OF_VECTOR), path.name, words)
         finally:
             gdal.Unlink(source)
     writing.write_all({path: data})
-    return renamed

@@ -55,25 +55,15 @@ class Shape:
 
 
 @dataclass(frozen=True)
-class Described:
-    """What a source says of a feature beside its outline."""
-
-    id: Any
-    properties: dict[str, Any]
-    kind: str
-
-
-@dataclass(frozen=True)
 class Source:
-    """A file: its number among the words, what its shapes are called, the property that names their layers, all
-    properties that its features have, as keys, and what it says of each feature, by what its shapes say of it."""
+    """A file: its number among the words, what its shapes are called, the property that names their layers, and all
+    properties that its features have, as keys."""
 
     number: int
     name: str
     stem: str
     name_by: str | None
     properties: dict[str, None] = field(default_factory=dict)
-    described: dict[str, Described] = field(default_factory=dict)
     systems: list[str] = field(default_factory=list)  # the numbers after SRID= in Well-Known Text
 
     def shape(self, label: str, wish: str | None, kind: str, coordinates: Any, feature: str) -> Shape:
@@ -110,9 +100,6 @@ class Source:
             if HALVES.search(wish):
                 return self.none(label, f'property "{self.name_by}" has half of a character, {wish!a}: no UTF-8')
         called = f"{label} ({wish})" if self.name_by and wish else label
-        geometry = value.get("geometry")
-        kind = str(geometry.get("type")) if isinstance(geometry, dict) else ""
-        self.described[called] = Described(value.get("id"), properties, kind)
         if value.get("geometry") is None:
             return [self.shape(called, wish, "a feature without a geometry", None, called)]
         return self.of_geojson(value["geometry"], called, wish, called)

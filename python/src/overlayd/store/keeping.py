@@ -9,13 +9,11 @@ from dataclasses import replace
 from decimal import Decimal
 
 from ..grid import scale as scales
-from . import features
 from .opening import is_store
 
 
-NAMES_BEGIN = b"store,number,name,"
 SCRIPTS_BEGIN = b"PUT "
-ENDS = (".scale.json", ".features.json", ".names.csv")
+ENDS = (".scale.json", ".features.json")  # the second lies beside stores of earlier versions
 
 
 class StoreStands(Exception):
@@ -72,10 +70,8 @@ def is_own(path: pathlib.Path) -> bool:
     try:
         if path.name.endswith(".scale.json"):
             return bool(scales.read(path)) and b'"factor"' in path.read_bytes()
-        if path.name.endswith(".features.json"):
-            return bool(features.read(path))
-        return path.read_bytes().startswith(NAMES_BEGIN if path.name.endswith(".names.csv") else SCRIPTS_BEGIN)
-    except (scales.ScaleFault, features.FeaturesFault):
+        return path.read_bytes().startswith(SCRIPTS_BEGIN)
+    except scales.ScaleFault:
         return False
 
 

@@ -1,16 +1,13 @@
-"""Lays polygons out over layers and stores: splits exactly what is too long, and numbers features in coded layers.
+"""Lays polygons out over layers and stores, and splits exactly what is too long.
 
 A ring is cut into runs, each closed through the ring's first point: the chords occur twice, so that by even-odd the
 runs joined by ^ are the ring, with no new corner and nothing rounded.
 """
 
-from collections.abc import Iterable, Iterator
 from dataclasses import dataclass, field
-from fractions import Fraction
-from typing import Any
 
 from ..files import rounding
-from ..files.rounding import Point, Polygon, Ring
+from ..files.rounding import Polygon, Ring
 from ..geometry import wkt
 from ..geometry.plane import Box
 from ..grid import limits
@@ -18,47 +15,37 @@ from ..grid import limits
 
 @dataclass
 class Group:
-    """What is to be under one name: polygons, those of each source, what rounding did to them, and its number where
-    it is coded. A source is a file's number and what a feature is called there."""
+    """What is to be under one name: polygons, and what rounding did to them."""
 
     wish: str
     polygons: list[Polygon] = field(default_factory=list)
     tally: rounding.Tally = field(default_factory=rounding.Tally)
-    sources: dict[tuple[int, str], list[Polygon]] = field(default_factory=dict)
 
-    def add(self, polygons: list[Polygon], tally: rounding.Tally, source: tuple[int, str]) -> None:
+    def add(self, polygons: list[Polygon], tally: rounding.Tally) -> None:
         self.polygons.extend(polygons)
         self.tally.add(tally)
-        self.sources.setdefault(source, []).extend(polygons)
 
     def steps(self) -> int:
         return rounding.steps_of(self.polygons)
 
     def overlaps(self) -> int:
         """How many pairs of polygons have boxes with a common part."""
-        return len(pairs_of_boxes(polygon[0] for polygon in self.polygons))
+        import numpy as np  # which few runs need
 
+        from ..kernel import box_pairs
 
-def pairs_of_boxes(given: Iterable[Iterable[Point]]) -> list[tuple[int, int]]:
-    """Which of some lists of points have boxes with a common part, the first before the second."""
-    import numpy as np  # which few runs need
-
-    from ..kernel import box_pairs
-
-    boxes: list[Any] = [Box.of_whole(points) if points else (1, 1, 0, 0) for points in ([*one] for one in given)]
-    return [(i, j) for i, j in box_pairs.pairs_within(np.array(boxes, np.int64).reshape(-1, 4)).tolist()]
+        boxes = [Box.of_whole(polygon[0]) for polygon in self.polygons]
+        return len(box_pairs.pairs_within(np.array(boxes, np.int64).reshape(-1, 4)))
 
 
 @dataclass
 class Layout:
-    """The layers of one name: base layers, where they are several the expression that joins them, and what stands
-    under the name, where that is one group."""
+    """The layers of one name: base layers, and where they are several the expression that joins them."""
 
     name: str
     base: list[tuple[str, list[Polygon]]]
     expression: str | None = None
     chords: int = 0
-    group: Group | None = None
 
     def count(self) -> int:
         return len(self.base) + (self.expression is not None)
@@ -70,10 +57,9 @@ class Layout:
 
 @dataclass
 class Store:
-    """What goes into one store: layouts, and for coded ones the features that they number from 1 on."""
+    """What goes into one store."""
 
     layouts: list[Layout] = field(default_factory=list)
-    features: list[Group] = field(default_factory=list)
 
     def count(self) -> int:
         return sum(layout.count() for layout in self.layouts)
@@ -197,46 +183,3 @@ def in_stores(layouts: list[Layout]) -> list[Store]:
             stores.append(found)
         found.layouts.append(layout)
     return stores
-
-
-def bit_layers(features: list[Group], may_split: bool) -> list[Layout] | None:
-    """Layer b_k holds those features whose number, from 1 on, has bit k; None where no store can hold that."""
-    names, layouts = Names(), []
-    bits = range(len(features).bit_length())
-    for bit in bits:
-        names.give(f"b{bit}")
-    for bit in bits:
-        polygons = [polygon for number, one in enumerate(features, 1) if number >> bit & 1 for polygon in one.polygons]
-        layout = split(f"b{bit}", polygons, names, False)
-        if not fits(layout) or (layout.expression and not may_split):
-            return None
-        layouts.append(layout)
-    return layouts if sum(layout.count() for layout in layouts) <= limits.LAYERS_MAX else None
-
-
-def coded(features: list[Group], may_split: bool) -> Iterator[Store]:
-    """All features in coded layers, as many in each store as it can hold; each of them fits a store by itself."""
-    left = features
-    while left:
-        low, high = 1, len(left)
-        while low < high:
-            half = (low + high + 1) // 2
-            low, high = (half, high) if bit_layers(left[:half], may_split) else (low, half - 1)
-        yield Store(bit_layers(left[:low], may_split) or [], left[:low])
-        left = left[low:]
-
-
-def bits_of(number: int) -> list[str]:
-    """The coded layers that hold the feature of a number."""
-    return [f"b{bit}" for bit in range(number.bit_length()) if number >> bit & 1]
-
-
-def expression_of(number: int, features: int) -> str:
-    """The expression over coded layers that is the inside of one feature."""
-    bits = range(features.bit_length())
-    text = " & ".join(f"b{bit}" for bit in bits if number >> bit & 1)
-    return text + "".join(f" - b{bit}" for bit in bits if not number >> bit & 1)
-
-
-def area_of(group: Group) -> Fraction:
-    return rounding.area_of(group.polygons)

@@ -1,4 +1,4 @@
-"""A store in the coordinates of the world, beside the client (overlayd.program): rings of layers, geometries, features.
+"""A store in the coordinates of the world, beside the client (overlayd.program): rings of layers, and geometries.
 
     from overlayd.program import Server
     from overlayd.store.world import World, rings
@@ -8,26 +8,16 @@
         world = World(server)                                   # by map.scale.json beside map.db
         session.put("plot", world.text_of(polygon))             # anything with __geo_interface__, as of shapely
         shapely.geometry.shape(world.shape_of(rings(session, "rest")))
-        counties = world.features(session)                      # each with id, name, properties, __geo_interface__
-        geopandas.GeoDataFrame.from_features(counties)
-        counties.put(37, polygon, {"name": "Wake"})             # one batch of the layers that hold it, durable
 """
 
 import json
-import pathlib
-from collections.abc import Iterator, Mapping
-from decimal import Decimal
+from collections.abc import Callable, Mapping
 from fractions import Fraction
-from typing import Any
+from typing import Any, NamedTuple
 
-from ..geometry import wkt
 from ..geometry.rings import polygons_of
 from ..grid import scale as scales
-from ..program import Refused, Server, Session
-from . import feature_changes, feature_texts, features
-from .feature_changes import Given, Plan
-from .features import Feature, Held, Table
-from .layers import Layers
+from ..program import Server, Session
 
 Ring = list[tuple[Fraction, Fraction]]
 """The corners of a ring, the first of them not repeated, with the inside on its left."""
@@ -39,38 +29,82 @@ def rings(session: Session, name: str) -> list[list[Ring]]:
             for polygon in polygons_of(session.boundary(name).pieces)]
 
 
-class Shape:
-    """A geometry of GeoJSON, in numbers of the world; of a feature also what it is. It is taken as __geo_interface__.
-    """
+class Text(NamedTuple):
+    """The Well-Known Text of a layer, and how far a corner was moved by rounding at most, in the world's unit."""
 
-    def __init__(self, geometry: Mapping[str, Any], properties: Mapping[str, Any] | None = None) -> None:
-        self.geometry, self.properties = geometry, properties
+    wkt: str
+    moved: float
+
+
+class Rounding:
+    """Writes GeoJSON's positions as a store's whole numbers, and notes how far a corner was moved at most."""
+
+    def __init__(self, scale: scales.Scale) -> None:
+        self.scale, self.moved = scale, Fraction(0)
+
+    def position(self, given: object) -> str:
+        if not isinstance(given, list) or len(given) < 2:
+            raise ValueError("a position is a list of two numbers")
+        x, y = exact(given[0]), exact(given[1])
+        near = self.scale.nearest(x, y)
+        there = self.scale.world((*near, 1))
+        self.moved = max(self.moved, abs(there[0] - x), abs(there[1] - y))
+        return f"{near[0]} {near[1]}"
+
+    def ring(self, given: object) -> str:
+        return bracketed(given, self.position)
+
+    def polygon(self, given: object) -> str:
+        return bracketed(given, self.ring)
+
+
+def exact(given: object) -> Fraction:
+    """The number that is given, as decimals, as a fraction or as a number of JSON."""
+    if not isinstance(given, (str, int, float)):  # a list may be nested so deep that it has no text
+        raise ValueError("a number is wanted")
+    try:
+        return scales.number(given) if isinstance(given, str) and "/" in given else scales.exact(given)
+    except scales.ScaleFault as fault:
+        raise ValueError(str(fault)) from fault
+
+
+def bracketed(given: object, spell: Callable[[object], str]) -> str:
+    if not isinstance(given, list) or not given:
+        raise ValueError("coordinates are lists of rings, and these of positions")
+    return "(" + ", ".join(spell(one) for one in given) + ")"
+
+
+def text_of(geometry: object, scale: scales.Scale) -> Text:
+    """The text of a GeoJSON Polygon or MultiPolygon, each corner at the nearest whole place of the store."""
+    kind = geometry.get("type") if isinstance(geometry, dict) else None
+    given = geometry.get("coordinates") if isinstance(geometry, dict) else None
+    if kind not in ("Polygon", "MultiPolygon") or not isinstance(given, list):
+        raise ValueError("a Polygon or a MultiPolygon with coordinates is wanted")
+    rounding = Rounding(scale)
+    polygons = [given] if kind == "Polygon" and given else given
+    text = bracketed(polygons, rounding.polygon) if polygons else "EMPTY"
+    return Text(f"MULTIPOLYGON {text}", float(rounding.moved))
+
+
+class Shape:
+    """A geometry of GeoJSON, in numbers of the world. It is taken as __geo_interface__."""
+
+    def __init__(self, geometry: Mapping[str, Any]) -> None:
+        self.geometry = geometry
 
     @property
     def __geo_interface__(self) -> Mapping[str, Any]:
         return self.geometry
 
 
-class MapFeature(Shape):
-    """A feature of a map: its id, its name, its revision, its properties and its outline."""
-
-    def __init__(self, feature: Feature, geometry: Mapping[str, Any]) -> None:
-        super().__init__(geometry, feature.properties)
-        self.id, self.name, self.revision = feature.id, feature.name, feature.revision()
-
-    @property
-    def __geo_interface__(self) -> Mapping[str, Any]:
-        return {"type": "Feature", "id": self.id, "properties": self.properties, "geometry": self.geometry}
-
-
 def geojson_of(given: object) -> dict[str, Any]:
-    """The geometry of what has __geo_interface__, or of GeoJSON, its numbers exact as they are written."""
+    """The geometry of what has __geo_interface__, or of GeoJSON, its numbers as they are written."""
     value: Any = getattr(given, "__geo_interface__", given)
     if isinstance(value, Mapping) and value.get("type") == "Feature":
         value = value.get("geometry")
     if not isinstance(value, Mapping):
         raise ValueError("what has __geo_interface__, or a geometry of GeoJSON, is wanted")
-    found: dict[str, Any] = json.loads(json.dumps(dict(value)), parse_float=Decimal)
+    found: dict[str, Any] = json.loads(json.dumps(dict(value)), parse_float=str)
     return found
 
 
@@ -78,16 +112,16 @@ class World:
     """What the whole numbers of a server's store mean: by NAME.scale.json beside it, else themselves."""
 
     def __init__(self, server: Server) -> None:
-        self.server = server
         path = scales.beside(server.store) if server.store else None
         self.scale = scales.read(path) if path and path.is_file() else scales.Scale()
 
     def text_of(self, geometry: object) -> str:
-        """The Well-Known Text that keeps a geometry of the world: anything with __geo_interface__, or of GeoJSON.
+        """The Well-Known Text of a geometry of the world: anything with __geo_interface__, or of GeoJSON.
 
-        Each corner is at the nearest whole place. What cannot be kept, as a ring that is too small, is a ValueError.
+        Each corner is at the nearest whole place. Of what is no polygon a ValueError says so; a ring that cannot be
+        kept, as one that is too small, the program refuses where the text is put.
         """
-        return wkt.write(feature_changes.rounded(geojson_of(geometry), self.scale).polygons)
+        return text_of(geojson_of(geometry), self.scale).wkt
 
     def shape_of(self, polygons: list[list[Ring]]) -> Shape:
         """Polygons as `rings` gives them, as a MultiPolygon of the world."""
@@ -99,90 +133,3 @@ class World:
 
         closed = [[[position(corner) for corner in ring + ring[:1]] for ring in polygon] for polygon in polygons]
         return Shape({"type": "MultiPolygon", "coordinates": closed})
-
-    def features(self, session: Session) -> "Features":
-        """The features of the map whose file NAME.features.json lies beside the store NAME.*."""
-        if self.server.store is None:
-            raise ValueError("a store in memory has no file of features")
-        return Features(self, session, features.beside(self.server.store))
-
-
-class Features:
-    """The features of a store's map, by the file of features beside it (docs/FEATURES.md): read, and changed singly.
-
-    They are read anew by each call. A change is durable when its call returns; one that cannot be made is a ValueError
-    that says why.
-    """
-
-    def __init__(self, world: World, session: Session, path: pathlib.Path) -> None:
-        self._world, self._session, self.path = world, session, path
-
-    def _standing(self) -> tuple[Table, Held, list[str]]:
-        """The table as it is, the rings of the base layers, and the names of all layers."""
-        layers = Layers.of(self._session.layers())
-        return features.resolved(features.read(self.path), layers.base, self.path), layers.base, layers.order
-
-    def __iter__(self) -> Iterator[MapFeature]:
-        table, held, _ = self._standing()
-        scale, program = self._world.scale, self._world.server.program
-        for one in features.outlines(table, held):
-            geometry = feature_texts.geometry(one.feature.kind, feature_texts.shaped(one.polygons, program), scale)
-            yield MapFeature(one.feature, json.loads(geometry))
-
-    @property
-    def __geo_interface__(self) -> Mapping[str, Any]:
-        return {"type": "FeatureCollection", "features": [one.__geo_interface__ for one in self]}
-
-    def __getitem__(self, identity: int | str) -> MapFeature:
-        """The feature with an id, else the first of a name."""
-        found = list(self)
-        fitting = ([one for one in found if str(one.id) == str(identity)]
-                   or [one for one in found if one.name == identity])
-        if not fitting:
-            raise KeyError(identity)
-        return fitting[0]
-
-    def at(self, x: float | Fraction, y: float | Fraction) -> list[tuple[str, str]]:
-        """The names of the features that have the place nearest to a point of the world, each with `in` or `edge`."""
-        table, held, _ = self._standing()
-        corner = self._world.scale.question(Fraction(str(x)), Fraction(str(y)))
-        within, edge = features.at(features.outlines(table, held), corner)
-        return [(one.name, "in") for one in within] + [(one.name, "edge") for one in edge]
-
-    def put(self, identity: int | str, geometry: object = None, properties: Mapping[str, Any] | None = None,
-            revision: str | None = None) -> MapFeature:
-        """Changes the outline of a feature, its properties, or both; what is None stays.
-
-        Where a revision is given and the feature has another one by now, nothing is changed, and ValueError is raised.
-        """
-        table, held, _ = self._standing()
-        old = feature_changes.known(table, identity)
-        if revision not in (None, old.revision()):
-            raise ValueError(f"{identity}: it has changed since revision {revision}")
-        given = self._given(geometry, old.properties if properties is None else properties, old.kind)
-        self._change(table, feature_changes.replaced(table, held, old.id, given))
-        return self[old.id]
-
-    def add(self, geometry: object, properties: Mapping[str, Any]) -> MapFeature:
-        """A new feature, with an id of its own."""
-        table, held, names = self._standing()
-        plan = feature_changes.added(table, held, names, self._given(geometry, properties, "Polygon"))
-        self._change(table, plan)
-        assert plan.change.feature is not None
-        return self[plan.change.feature.id]
-
-    def remove(self, identity: int | str) -> None:
-        table, held, _ = self._standing()
-        self._change(table, feature_changes.removed(table, held, identity))
-
-    def _given(self, geometry: object, properties: Mapping[str, Any], kind: str) -> Given:
-        plain = features.plain(json.loads(json.dumps(dict(properties)), parse_float=Decimal))
-        if geometry is None:
-            return Given(kind, None, plain)
-        found = feature_changes.rounded(geojson_of(geometry), self._world.scale)
-        return Given(found.kind, found.polygons, plain)
-
-    def _change(self, table: Table, plan: Plan) -> None:
-        if self._world.server.read_only:
-            raise ValueError("the store is opened for reading alone")
-        feature_changes.carried_out(self.path, table, plan, self._session.batch, self._session.sync, Refused)

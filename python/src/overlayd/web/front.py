@@ -17,14 +17,11 @@ from werkzeug.exceptions import HTTPException, MethodNotAllowed
 from werkzeug.routing import BaseConverter
 
 from ..program import NAME, Ended, Refused
-from ..store.feature_changes import Unwritten
 from . import schemas
-from .feature_store import FeatureStore, Unlike
 from .features_api import FeaturesApi
 from .joining import TooLarge
-from .layer_store import WAITING_MOST, Changed, LayerStore, NotDurable, Pending, Protected
+from .layer_store import WAITING_MOST, Changed, LayerStore, NotDurable, Pending
 from .map_api import MapApi
-from .map_features import MapFeatures
 from .ogc_pages import PAGE, OgcPages
 from .opened_registers import Lost
 from .pages import FORM, Page, Problem, page, said_by, sent
@@ -92,11 +89,11 @@ def refused(fault: Exception) -> Response:
             return refusal(503, 503, str(fault), version=fault.version)
         case TooLarge():
             return refusal(413, 413, str(fault))
-        case Changed() | Protected() | Unlike() | Unplaced():
+        case Changed() | Unplaced():
             return refusal(409, 409, str(fault))
         case Busy() | Pending():
             return refusal(503, 503, str(fault), {"Retry-After": "1"})
-        case NotWritten() | Unwritten():
+        case NotWritten():
             return refusal(503, 503, str(fault), {"Retry-After": f"{AGAIN:.0f}"})
         case Lost():
             return refusal(503, 503, f"the register does not answer: {fault}", {"Retry-After": f"{AGAIN:.0f}"})
@@ -139,13 +136,10 @@ def file(folder: pathlib.Path, name: str, seconds: int | None = None) -> Respons
 
 
 def of_store(store: LayerStore, hosts: Iterable[str] = LOOPBACK, base: str | None = None,
-             leaflet: pathlib.Path = LEAFLET, maps: FeatureStore | None = None,
-             systems: Systems | None = None) -> Front:
-    """The front over a store. maps: the features of a map over its layers, where there are some. systems: those that
-    it answers in, where not only in the store's."""
-    features = MapFeatures(maps, systems) if maps else FeaturesApi(store, systems)
-    owners = (features, MapApi(store, maps, systems), Files(leaflet))
-    return Front(owners, store.writable, hosts, base, maps.name if maps else "")
+             leaflet: pathlib.Path = LEAFLET, systems: Systems | None = None) -> Front:
+    """The front over a store. systems: those that it answers in, where not only in the store's."""
+    owners = (FeaturesApi(store, systems), MapApi(store, systems), Files(leaflet))
+    return Front(owners, store.writable, hosts, base)
 
 
 def of_register(pages: RegisterApi, hosts: Iterable[str] = LOOPBACK, base: str | None = None,
@@ -156,10 +150,10 @@ def of_register(pages: RegisterApi, hosts: Iterable[str] = LOOPBACK, base: str |
 
 class Front:
     """owners: those whose methods answer. hosts: the names by which it is asked. base: the address under which a server
-    before it passes questions on. name: that of a map."""
+    before it passes questions on."""
 
     def __init__(self, owners: Sequence[object], writable: bool, hosts: Iterable[str] = LOOPBACK,
-                 base: str | None = None, name: str = "") -> None:
+                 base: str | None = None) -> None:
         self.owners, self.writable = tuple(owners), writable
         self.base = base.rstrip("/") if base else None
         parts = urllib.parse.urlsplit(base or "")
@@ -173,7 +167,7 @@ class Front:
             if isinstance(owner, OgcPages):
                 owner.kinds = tuple(type(one) for one in owners)
             for method, said in said_by(type(owner)).items():
-                self._add(said, getattr(owner, method), name)
+                self._add(said, getattr(owner, method))
         self.app.before_request(self._look)
         self.app.after_request(dressed)
         self.app.register_error_handler(Exception, refused)
@@ -181,11 +175,8 @@ class Front:
     def __call__(self, environ: dict[str, Any], start: Any) -> Any:
         return self.app(environ, start)
 
-    def _add(self, said: Page, answers: Callable[..., Response], name: str) -> None:
-        """Gives a page its route. name is that of the map; one that is none of a collection has no pages of its own."""
-        if "<map>" in said.route and not NAME.match(name):
-            return
-
+    def _add(self, said: Page, answers: Callable[..., Response]) -> None:
+        """Gives a page its route."""
         @functools.wraps(answers)
         def answered(**parts: str) -> Response:
             given = request.args.to_dict()
@@ -196,10 +187,8 @@ class Front:
             with self._place(said):
                 return answers(**parts, **words)
 
-        route = said.route.replace("<map>", name)
-        self.app.add_url_rule(
-            route, f"{said.method} {route}", answered, methods=[said.method], provide_automatic_options=False
-        )
+        self.app.add_url_rule(said.route, f"{said.method} {said.route}", answered, methods=[said.method],
+                              provide_automatic_options=False)
 
     @contextmanager
     def _place(self, said: Page) -> Iterator[None]:

@@ -52,10 +52,6 @@ class Changed(Exception):
     """A layer has another revision than the one that was asked for."""
 
 
-class Protected(Exception):
-    """A layer is part of something else, and is not changed by itself."""
-
-
 class NotDurable(Exception):
     """A change was accepted as a version, and the store could not keep it."""
 
@@ -96,7 +92,6 @@ class LayerStore:
         self._extents: Kept[str, list[Box]] = Kept(REVISIONS_MOST, lambda _: 1)
         self._too_large: Kept[str, tuple[float, str]] = Kept(REVISIONS_MOST, lambda _: 1)
         self._joiners, self._reminding, self._noting = Joiners(JOINING), threading.Lock(), threading.Lock()
-        self._refusal: Callable[[str], str | None] = lambda _: None
         self.places = Places(WAITING_MOST)
 
     def close(self) -> None:
@@ -171,11 +166,11 @@ class LayerStore:
         except TimeoutError:
             raise TooLarge(f"{name} has {len(pieces)} pieces that take longer, and {most}") from None
 
-    def _base_pieces(self, *texts: str) -> list[Piece]:
-        """The boundary of what an odd number of texts have."""
+    def _base_pieces(self, text: str) -> list[Piece]:
+        """The boundary of the inside of a text."""
         seconds = self._scratch.seconds
         try:
-            return self._scratch.pieces(texts, TURN)
+            return self._scratch.pieces(text, TURN)
         except TimeoutError:
             raise TooLarge(f"its rings take longer than the {seconds:g} seconds that they are given") from None
         except Refused as fault:
@@ -224,39 +219,10 @@ class LayerStore:
 
     # ---- changes
 
-    def inside_of(self, texts: Sequence[str]) -> list[shapes.Feature]:
-        """The polygons of what an odd number of texts have."""
-        key = "".join(texts)
-        self._check_size(key)
-        with self._noted_size(key):
-            return self._features("a feature", self._base_pieces(*texts))
-
-    def protect(self, refusal: Callable[[str], str | None]) -> None:
-        """Has changes of layers refused that are parts of something else, by what says why."""
-        self._refusal = refusal
-
-    def settle(self) -> None:
-        """Has all that was accepted durable, where there is a file."""
-        if self.kept:
-            with self._server.session(slow=True, timeout=TURN) as one:
-                one.layers()  # SYNC waits for what its session has seen
-                self._sync(one, self.version)
-
-    def must_be_written(self) -> None:
-        """Refuses a change where the store is not written any more."""
+    def change(self, lines: Sequence[str]) -> int:
+        """Accepts commands as one version, whose number it gives. With a file, it is durable before this returns."""
         if self._rescue and self._rescue.reason:
             raise NotWritten(f"nothing is changed: {self._rescue.reason}")
-
-    def change(self, lines: Sequence[str], *, own: bool = False) -> int:
-        """Accepts commands as one version, whose number it gives. With a file, it is durable before this returns.
-
-        own: they change the parts themselves.
-        """
-        for line in () if own else lines:
-            reason = self._refusal(line.split(" ", 2)[1])
-            if reason:
-                raise Protected(reason)
-        self.must_be_written()
         with self._server.session(slow=True, timeout=TURN) as one:
             with self._hold.alone(TURN):
                 version = self.version = self._accepted(one, lines)

@@ -11,13 +11,12 @@ from flask import Response
 from ..files import coordinate_systems
 from ..grid import limits
 from ..program import LARGEST_BATCH, NAME, OUT_OF_RANGE, Piece, Point, Refused, Session
-from .feature_store import FeatureStore, State
+from ..store.world import text_of
 from .features_api import LAYER
 from .layer_store import LayerStore
 from .pages import POINT, Problem, Word, body, page, sent
-from .shapes import text_of
 from .systems import Systems
-from .views import Busy, View
+from .views import Busy
 
 DEFINITION_MOST = 2000
 COLUMNS_FORM = "[0-9]{1,2}(,[0-9]{1,2}){0,99}"
@@ -34,27 +33,23 @@ COLUMNS = Word("columns", "numbers of columns, from 0, parted by commas; all whe
 
 
 class MapApi:
-    def __init__(self, store: LayerStore, maps: FeatureStore | None = None, systems: Systems | None = None) -> None:
-        self.store, self.scale, self.maps = store, store.scale, maps
+    def __init__(self, store: LayerStore, systems: Systems | None = None) -> None:
+        self.store, self.scale = store, store.scale
         self.systems = systems or Systems(store.scale)
 
     @page("GET", "/status", "getStatus", "the version, and what of it is durable", "status")
     def status(self) -> Response:
         store = self.store
-        state: State | None = None
         try:
             with store.view() as view:
                 version, durable, count = view.version, store.durable, cast("int | None", len(view.layers))
-                state = self.maps.state(view) if self.maps else None
         except (Busy, TimeoutError):  # what is lost is reported all the same
             version, durable, count = store.version, store.durable, None
         return sent(
             {
                 "title": self.scale.title, "version": version, "durable": durable if store.kept else None,
                 "lost": store.lost(), "writable": store.writable, "layers": count,
-                "map": state.table.collection if state else None, "map_revision": state.revision if state else None,
-                "name_by": state.table.name_by if state else None, "columns": self.scale.columns(),
-                "crs": self.scale.scale.crs, "storage": self.systems.storage,
+                "columns": self.scale.columns(), "crs": self.scale.scale.crs, "storage": self.systems.storage,
                 "y_first": bool(self.systems.projection and self.systems.projection.y_first), "unit": self.scale.unit,
                 "geographic": self.scale.is_geographic(), "limits": self.scale.limits(),
             }
@@ -64,30 +59,14 @@ class MapApi:
     def locate(self, name: str, x: Fraction, y: Fraction) -> Response:
         question, answer = self._question(x, y)
         with self.store.view() as view:
-            if self.maps and name == self.maps.name:
-                answer["features"] = self._features(view, question)
-                return sent(answer)
             answer["place"] = view.locate([name], question)[name]
         return sent(answer)
 
-    def _features(self, view: View, question: Point) -> list[dict[str, object]]:
-        """The features that have a point, with all that they are but their outlines."""
-        if not self.maps:
-            return []
-        return [
-            {"id": one.id, "name": one.name, "place": place, "properties": one.properties}
-            for one, place in self.maps.at(view, question)
-        ]
-
-    @page("GET", "/locate", "locateAll", "where a point lies in each layer, and the features that have it",
-          "locatedAll", *POINT)
+    @page("GET", "/locate", "locateAll", "where a point lies in each layer", "locatedAll", *POINT)
     def locate_all(self, x: Fraction, y: Fraction) -> Response:
         question, answer = self._question(x, y)
         with self.store.view() as view:
-            hidden = self.maps.hidden(self.maps.state(view).table) if self.maps else set()
-            answer["places"] = view.locate([name for name in view.layers if name not in hidden], question)
-            if self.maps:
-                answer["features"] = self._features(view, question)
+            answer["places"] = view.locate([*view.layers], question)
         return sent(answer)
 
     def _question(self, x: Fraction, y: Fraction) -> tuple[Point, dict[str, object]]:
@@ -120,7 +99,7 @@ class MapApi:
 
     @page("PUT", LAYER, "putLayer", "puts or defines a layer", "changed", body="layer", slow=True)
     def put(self, name: str) -> Response:
-        line, moved = self._command(body(), name)
+        line, moved = self._command(body(number=str), name)
         return self._changed([line], moved)
 
     @page("DELETE", LAYER, "dropLayer", "drops a layer", "changed", slow=True)
@@ -130,7 +109,7 @@ class MapApi:
     @page("POST", "/batch", "batch", "changes several layers as one version", "changed", body="batch", slow=True)
     def batch(self) -> Response:
         """{"commands": [{"put": name, "geometry": ..}, {"define": name, "definition": ..}, {"drop": name}]}."""
-        commands = body().get("commands")
+        commands = body(number=str).get("commands")
         if not isinstance(commands, list) or not 1 <= len(commands) <= LARGEST_BATCH:
             raise Problem(400, f"commands: a list of 1 to {LARGEST_BATCH} objects is wanted")
         made = [self._command_of_batch(one) for one in commands]
@@ -157,7 +136,7 @@ class MapApi:
         if "definition" in given:
             return f"DEFINE {name} = {definition_of(given['definition'])}", 0.0
         try:
-            text = text_of(given.get("geometry", given), self.scale)
+            text = text_of(given.get("geometry", given), self.scale.scale)
         except ValueError as fault:
             raise Problem(400, f"geometry: {fault}") from fault
         return Session.put_line(name, text.wkt), text.moved

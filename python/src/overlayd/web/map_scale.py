@@ -16,19 +16,6 @@ CRS84 = "http://www.opengis.net/def/crs/OGC/1.3/CRS84"
 EPSG = "http://www.opengis.net/def/crs/EPSG/0/"
 
 
-def exact(text: object) -> Fraction:
-    """The number that a text spells. Its digits and its exponent are bounded, as one of 9 digits
-    would take all memory."""
-    if not isinstance(text, (str, int, float)):  # a list may be nested so deep that it has no text
-        raise ValueError("a number is wanted")
-    if re.fullmatch(r"[-+]?[0-9]{1,20}/[0-9]{1,20}", str(text)) and int(str(text).partition("/")[2]):
-        return Fraction(str(text))
-    try:
-        return scales.exact(text)
-    except scales.ScaleFault as fault:
-        raise ValueError(str(fault)) from fault
-
-
 def rounded(over: int, under: int, digits: int) -> int | float:
     """over / under with so many digits after the point, halves to even; a whole number where there are none."""
     power = int(10**digits)

@@ -8,7 +8,7 @@ import pathlib
 import re
 from collections.abc import Callable
 from fractions import Fraction
-from typing import Any, NamedTuple
+from typing import NamedTuple
 
 from flask import Response, g, request, send_from_directory
 
@@ -94,11 +94,7 @@ class OgcPages:
     def api(self) -> Response:
         from . import openapi
 
-        return sent(openapi.document(self.scale.title, g.root, self.writable, self.described(), self.kinds), OPENAPI)
-
-    def described(self) -> Any:
-        """What the description says of a map's features, where there are some."""
-        return None
+        return sent(openapi.document(self.scale.title, g.root, self.writable, self.kinds), OPENAPI)
 
     @page("GET", "/conformance", "getConformanceDeclaration", "what the server conforms to", "confClasses")
     def conformance(self) -> Response:

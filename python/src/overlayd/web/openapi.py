@@ -7,7 +7,7 @@ import re
 from collections.abc import Sequence
 
 from .pages import GEOJSON, JSON, Page, Word, said_by
-from .schemas import ID, NAME, SCHEMAS, Described, Value, array, ref, shaped
+from .schemas import ID, NAME, SCHEMAS, Value, ref
 
 OF_ROUTE: dict[str, Value] = {
     "layer": {"name": "collectionId", "in": "path", "required": True, "description": "the name of a collection",
@@ -45,32 +45,19 @@ def operation(page: Page) -> Value:
     return made
 
 
-def path_of(page: Page, name: str) -> str:
-    """The path of a page as OpenAPI has it. name is that of the map."""
-    return re.sub(r"<(\w+):\w+>", lambda part: "{%s}" % OF_ROUTE[part[1]]["name"], page.route.replace("<map>", name))
+def path_of(page: Page) -> str:
+    """The path of a page as OpenAPI has it."""
+    return re.sub(r"<(\w+):\w+>", lambda part: "{%s}" % OF_ROUTE[part[1]]["name"], page.route)
 
 
-def schemas_of(described: Described | None) -> dict[str, Value]:
-    """All schemas, those of a map's features among them."""
-    if described is None:
-        return SCHEMAS
-    listed = {**SCHEMAS["featureCollection"]["properties"], "features": array(ref("mapFeature"))}
-    return {
-        **SCHEMAS, "mapProperties": described.properties, "mapFeature": shaped("Feature", ref("mapProperties")),
-        "mapFeatures": {**SCHEMAS["featureCollection"], "properties": listed},
-    }
-
-
-def document(title: str, root: str, writable: bool, described: Described | None, kinds: Sequence[type]) -> Value:
-    """The description of the pages of some classes: of those that change something where that may be done, of a map's
-    where there is one."""
+def document(title: str, root: str, writable: bool, kinds: Sequence[type]) -> Value:
+    """The description of the pages of some classes: of those that change something where that may be done."""
     paths: dict[str, dict[str, Value]] = {}
     for kind in kinds:
         for page in said_by(kind).values():
             if page.name and (writable or not page.is_change):
-                path = path_of(page, described.name if described else "")
-                paths.setdefault(path, {})[page.method.lower()] = operation(page)
+                paths.setdefault(path_of(page), {})[page.method.lower()] = operation(page)
     return {
         "openapi": "3.0.3", "info": {"title": title, "version": "1.0"}, "servers": [{"url": root}], "paths": paths,
-        "components": {"schemas": schemas_of(described)},
+        "components": {"schemas": SCHEMAS},
     }

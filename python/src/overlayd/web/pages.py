@@ -15,7 +15,7 @@ from typing import Any, NamedTuple, TypeVar
 
 from flask import Response, request
 
-from .map_scale import exact
+from ..store.world import exact
 from .schemas import Value, array
 
 BODY_MOST = 1 << 20
@@ -171,10 +171,16 @@ def content(*kinds: str) -> bytes:
     return request.stream.read(int(length))
 
 
-def body() -> dict[str, object]:
-    """The JSON object of the body; its numbers are kept as they are written."""
+def no_number(word: str) -> float:
+    """Refuses what JSON has no number for."""
+    raise ValueError(f"{word} is no number")
+
+
+def body(*kinds: str, number: Callable[[str], Any] | None = None) -> dict[str, Any]:
+    """The JSON object of the body, said to be JSON or one of kinds. number: what is made of the text of a number, where
+    that is no double."""
     try:
-        value = json.loads(content(), parse_float=str, parse_int=str, parse_constant=str)
+        value = json.loads(content(*kinds), parse_float=number, parse_int=number, parse_constant=number or no_number)
     except RecursionError:
         raise Problem(400, "no JSON that is read: lists and objects are nested too deep") from None
     except ValueError as fault:
@@ -182,10 +188,3 @@ def body() -> dict[str, object]:
     if not isinstance(value, dict):
         raise Problem(400, "an object is wanted")
     return value
-
-
-def must_match(revision: str) -> None:
-    """Refuses (412) a change whose If-Match names another revision than the present one."""
-    given = [word.strip() for word in request.headers.get("If-Match", "").split(",")]
-    if given != [""] and "*" not in given and f'"{revision}"' not in given:
-        raise Problem(412, f"it has changed: its revision is {revision}")

@@ -3,7 +3,6 @@
 from __future__ import annotations
 
 import getpass
-import json
 from collections.abc import Callable, Mapping
 from typing import Any
 
@@ -18,12 +17,13 @@ from ..register.ruling import accept
 from ..register.tables import Item, Unknown
 from ..register.transacting import Breaks, Change, Done, Stale, Unfit, What, transact, undo
 from ..register.violating import Violation
-from .pages import Problem, content, page, sent
+from .pages import Problem, body, page, sent
 from .register_api import ROW, ROWS, RegisterApi, known, layer
 from .register_items import of_row
 from .systems import Unplaced
 
 WHO_MOST = 200
+PATCH = ("application/merge-patch+json",)
 
 
 class RegisterChanges:
@@ -34,7 +34,7 @@ class RegisterChanges:
 
     @page("POST", f"{ROWS}/items", "addFeature", "a new feature", "rowItem", body="rowFeature", status=201, slow=True)
     def create(self, name: str) -> Response:
-        change = self._change(What.INSERT, name, None, body_of())
+        change = self._change(What.INSERT, name, None, body(*PATCH))
         done = self._made(lambda register, program: self._transacted(register, program, [change]))
         return self._answer(name, done, 201)
 
@@ -42,7 +42,7 @@ class RegisterChanges:
           if_match=True)
     def replace(self, name: str, identity: str) -> Response:
         """All columns that are not said are empty from then on."""
-        given = body_of()
+        given = body(*PATCH)
 
         def made(register: Register, program: Program) -> Done:
             columns = register.engine.columns(register.layer(layer(register, name)))
@@ -56,7 +56,7 @@ class RegisterChanges:
     @page("PATCH", ROW, "updateFeature", "other values of some columns, or another shape", "rowItem", body="rowFeature",
           slow=True, if_match=True)
     def update(self, name: str, identity: str) -> Response:
-        change = self._change(What.UPDATE, name, int(identity), body_of(), if_match())
+        change = self._change(What.UPDATE, name, int(identity), body(*PATCH), if_match())
         return self._answer(name, self._made(lambda register, program: self._transacted(register, program, [change])))
 
     @page("DELETE", ROW, "removeFeature", "takes a feature out", "changedRows", slow=True, if_match=True)
@@ -69,7 +69,7 @@ class RegisterChanges:
     def transaction(self) -> Response:
         """{"changes": [{"insert": layer, "feature": ..}, {"update": layer, "id": .., "etag": .., "feature": ..},
         {"delete": layer, "id": .., "etag": ..}]}."""
-        given = body_of().get("changes")
+        given = body(*PATCH).get("changes")
         if not isinstance(given, list):
             raise Problem(400, "changes: a list is wanted")
         changes = [self._listed(one) for one in given]
@@ -82,7 +82,7 @@ class RegisterChanges:
     @page("POST", "/violations/<number:identity>/accept", "accept", "accepts a violation, and says why", "accepted",
           body="why", slow=True)
     def accept(self, identity: str) -> Response:
-        why = body_of().get("why")
+        why = body(*PATCH).get("why")
 
         def accepted(register: Register, _: Program) -> None:
             accept(register, int(identity), self.who(), why if isinstance(why, str) else "")
@@ -185,24 +185,6 @@ class RegisterChanges:
 
         return sent({"change": done.number, "features": [
             {"collection": name, "id": fid, "etag": etag(item)} for name, fid, item in done.features]})
-
-
-def body_of() -> dict[str, Any]:
-    """The JSON object of the body, with numbers as doubles."""
-    try:
-        value = json.loads(content("application/merge-patch+json"), parse_constant=no_number)
-    except RecursionError:
-        raise Problem(400, "no JSON that is read: lists and objects are nested too deep") from None
-    except ValueError as fault:
-        raise Problem(400, f"no JSON: {fault}") from fault
-    if not isinstance(value, dict):
-        raise Problem(400, "an object is wanted")
-    return value
-
-
-def no_number(word: str) -> float:
-    """Refuses what JSON has no number for."""
-    raise ValueError(f"{word} is no number")
 
 
 def if_match() -> str | None:

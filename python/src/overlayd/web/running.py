@@ -21,10 +21,8 @@ from ..grid import scale as scales
 from ..program import MOST_SESSIONS, Ended, Refused, Server
 from ..program_files import FEATURES, OVERLAY, found_program
 from ..register.model import Refused as RegisterRefused
-from ..store import features
 from ..words import Words
 from .by_waitress import serve
-from .feature_store import FeatureStore, Unlike
 from .front import of_register, of_store
 from .layer_store import JOINING, LayerStore, number_in_file
 from .map_scale import MapScale
@@ -46,13 +44,6 @@ def scale_of(words: Words) -> MapScale:
     beside = scales.beside(words.store) if words.store else None
     path = words.scale or (beside if beside and beside.is_file() else None)
     return MapScale(scales.read(path) if path else scales.Scale())
-
-
-def features_of(words: Words, store: LayerStore) -> FeatureStore | None:
-    """The features of the words, or of the file beside the store, or none."""
-    beside = features.beside(words.store) if words.store and not words.create else None
-    path = words.features or (beside if beside and beside.is_file() else None)
-    return None if path is None or words.no_features else FeatureStore(store, path, parts=words.parts)
 
 
 def systems_of(scale: MapScale, as_stored: bool) -> Systems:
@@ -176,9 +167,8 @@ def run_store(words: Words, hosts: set[str]) -> int:
         with opened(words, ending) as (server, store):
             try:
                 with contextlib.suppress(SystemExit, KeyboardInterrupt):
-                    maps = features_of(words, store)
                     systems = systems_of(store.scale, words.as_stored)
-                    front = of_store(store, hosts, words.base, words.leaflet, maps, systems)
+                    front = of_store(store, hosts, words.base, words.leaflet, systems)
                     serve(front, words.host, words.port)
             finally:  # a fault goes on, and what ends because of it does not end the front
                 for number in (signal.SIGTERM, signal.SIGALRM):
@@ -189,9 +179,6 @@ def run_store(words: Words, hosts: set[str]) -> int:
                 child.kill()
     except (Unheard, Unusable) as fault:
         print(fault, file=sys.stderr)
-        return 1
-    except (features.FeaturesFault, Unlike) as fault:
-        print(f"{fault}; --no-features serves the layers alone", file=sys.stderr)
         return 1
     except (Refused, Ended, scales.ScaleFault, Unprojected) as fault:
         print(f"{words.store or 'the front'}: {fault}", file=sys.stderr)

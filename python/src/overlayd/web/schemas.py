@@ -2,11 +2,10 @@
 
 from __future__ import annotations
 
-from collections.abc import Iterable, Mapping
-from typing import Any, NamedTuple
+from collections.abc import Iterable
+from typing import Any
 
 from ..grid import limits
-from ..store import simple
 
 Value = dict[str, Any]
 NAME = "^[A-Za-z][A-Za-z0-9_]{0,31}$"
@@ -16,13 +15,6 @@ TEXT_OR_NOTHING: Value = {"type": "string", "nullable": True}
 WHOLE: Value = {"type": "integer", "minimum": 0}
 NUMBER: Value = {"type": "number"}
 PLACE: Value = {"type": "string", "enum": ["in", "out", "edge"]}
-
-
-class Described(NamedTuple):
-    """The map whose features are served: its name, and the schema of their properties."""
-
-    name: str
-    properties: Value
 
 
 def ref(name: str) -> Value:
@@ -64,37 +56,8 @@ def shaped(kind: str, properties: Value) -> Value:
               links=array(ref("link")))
 
 
-def kind_of(value: Any) -> str | None:
-    """The type of a value of JSON, None for null."""
-    kinds = ((bool, "boolean"), (int, "integer"), (float, "number"), (str, "string"), (list, "array"), (dict, "object"))
-    return next((name for kind, name in kinds if isinstance(value, kind)), None)
-
-
-def schema_of(values: Iterable[Any]) -> Value:
-    """The schema of all values of a property; one without a type where they are of several."""
-    kinds = {kind_of(value) for value in values}
-    named = kinds - {None}
-    if named == {"integer", "number"}:
-        named = {"number"}
-    made: Value = {"type": named.pop()} if len(named) == 1 else {}
-    if made.get("type") == "array":
-        made["items"] = {}
-    return {**made, "nullable": True} if None in kinds and made else made
-
-
-def properties_of(found: Iterable[Mapping[str, Any]], area_name: str) -> Value:
-    """The schema of features' properties: what each name has where it is there, and what is always there."""
-    rows = list(found)
-    names = dict.fromkeys(name for row in rows for name in row)
-    properties = {name: schema_of(row[name] for row in rows if name in row) for name in names}
-    required = [name for name in names if all(name in row for row in rows)]
-    area = {"type": "number", "description": "of the even-odd inside, in the square of the unit"}
-    return {"type": "object", "properties": {**properties, area_name: area}, "required": [*required, area_name]}
-
-
 POSITION = array(NUMBER, 2, 2)
 CHANGED: dict[str, Value] = {"version": WHOLE, "durable": {**WHOLE, "nullable": True}}
-REVISED = {"id": {"oneOf": [WHOLE, STRING]}, "revision": STRING, "moved": NUMBER}
 ASKED: dict[str, Value] = {"asked": array({"type": "integer"}, 3, 3), "point": POSITION, "exact": {"type": "boolean"}}
 LISTED = {"numberMatched": WHOLE, "numberReturned": WHOLE, "revision": STRING, "links": array(ref("link"))}
 GIVEN_GEOMETRY = of(["type", "coordinates"], type={"type": "string", "enum": ["Polygon", "MultiPolygon"]},
@@ -120,25 +83,16 @@ SCHEMAS: dict[str, Value] = {
     "feature": shaped("Feature", of()),
     "featureCollection": of(["type", "features", *LISTED], type={"type": "string", "enum": ["FeatureCollection"]},
                             features=array(ref("feature")), **LISTED),
-    "newFeature": {
-        **of(["type", "geometry"], type={"type": "string", "enum": ["Feature"]}, geometry=GIVEN_GEOMETRY,
-             properties={"type": "object", "nullable": True}),
-        "description": "Refused (422) where a list of the geometry is empty, and where it is beyond a check: that "
-        f"looks at {simple.PAIRS_MOST} pairs of edges that lie close to each other, and {simple.MEETINGS_MOST} of them "
-        "may meet."},
-    "atPoint": every(id={"oneOf": [WHOLE, STRING]}, name=STRING, place=PLACE, properties=of()),
-    "located": of(ASKED, **ASKED, place=PLACE, features=array(ref("atPoint"))),
-    "locatedAll": of([*ASKED, "places"], **ASKED, places=by_name(PLACE), features=array(ref("atPoint"))),
+    "located": of(ASKED, **ASKED, place=PLACE),
+    "locatedAll": of([*ASKED, "places"], **ASKED, places=by_name(PLACE)),
     "tiles": every(revision=STRING, tiles=array(every(
         column={"type": "integer", "minimum": 0, "maximum": limits.COLUMNS - 1},
         lines={**array(array(POSITION, 2, 2)), "nullable": True}))),
     "status": of(["version", "durable", "writable"], title=STRING, version=WHOLE, durable={**WHOLE, "nullable": True},
                  writable={"type": "boolean"}, lost=array(STRING), layers={**WHOLE, "nullable": True},
-                 map=TEXT_OR_NOTHING, map_revision=TEXT_OR_NOTHING, name_by=TEXT_OR_NOTHING,
                  columns=array(NUMBER, limits.COLUMNS, limits.COLUMNS), crs=TEXT_OR_NOTHING, storage=TEXT_OR_NOTHING,
                  y_first={"type": "boolean"}, unit=STRING, geographic={"type": "boolean"}, limits=array(NUMBER, 4, 4)),
     "changed": of(CHANGED, **CHANGED, moved=NUMBER),
-    "changedFeature": every(**CHANGED, **REVISED),
     "rowFeature": of(["type"], type={"type": "string", "enum": ["Feature"]}, geometry=nullable(GIVEN_GEOMETRY),
                      properties=of()),
     "rowCollection": of(["type", "features", "numberReturned", "links"],

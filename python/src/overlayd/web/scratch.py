@@ -5,7 +5,6 @@ from __future__ import annotations
 import contextlib
 import os
 import threading
-from collections.abc import Sequence
 
 from ..program import Ended, Piece, Refused, Server, Session
 from .views import Busy
@@ -22,13 +21,12 @@ class Scratch:
     def _begun(self) -> Server:
         return Server(program=self._program, timeout=self.seconds)
 
-    def pieces(self, texts: Sequence[str], turn: float) -> list[Piece]:
-        """The boundary of what an odd number of texts have; TimeoutError where that takes too long.
-        turn: how long it may wait."""
+    def pieces(self, text: str, turn: float) -> list[Piece]:
+        """The boundary of the inside of a text; TimeoutError where that takes too long. turn: how long it may wait."""
         if not self._turn.acquire(timeout=turn):
             raise Busy("another base layer is being worked out: ask again")
         try:
-            return self._pieces(self._server.sessions[0], texts)
+            return self._pieces(self._server.sessions[0], text)
         except TimeoutError:
             self._begin_anew()
             raise
@@ -36,14 +34,13 @@ class Scratch:
             self._turn.release()
 
     @staticmethod
-    def _pieces(one: Session, texts: Sequence[str]) -> list[Piece]:
-        names = [f"a{number}" for number in range(len(texts))]
+    def _pieces(one: Session, text: str) -> list[Piece]:
         try:
-            one.batch([*map(one.put_line, names, texts), f"DEFINE b = {' ^ '.join(names)}"])
+            one.batch([one.put_line("a", text), "DEFINE b = a"])
             return one.boundary("b").pieces
         finally:
             with contextlib.suppress(Refused, Ended, TimeoutError):
-                one.batch([f"DROP {name}" for name in ("b", *names)])
+                one.batch(["DROP b", "DROP a"])
 
     def _begin_anew(self) -> None:
         given_up, self._server = self._server, self._begun()

@@ -1,4 +1,4 @@
-"""From the boundary of a layer to features of the web, and from GeoJSON to the text of a layer.
+"""From the boundary of a layer to features of the web.
 
 Pieces are joined into rings by geometry/rings.py. What is asked of a feature is worked out on its exact corners; only
 what is written is rounded, by the scale.
@@ -6,15 +6,11 @@ what is written is rounded, by the scale.
 
 from __future__ import annotations
 
-from collections.abc import Callable
-from fractions import Fraction
-from typing import NamedTuple
-
 from ..geometry import plane
 from ..geometry.plane import Box
 from ..geometry.rings import polygons_of
 from ..program import Piece, Point
-from .map_scale import MapScale, exact, rounded
+from .map_scale import MapScale, rounded
 
 AREA_BITS = 96
 """An area is summed in whole multiples of 2^-96, each term cut off; so it is right before it is written with 15
@@ -53,50 +49,3 @@ def features_of(pieces: list[Piece], scale: MapScale) -> list[Feature]:
     """The polygons that the pieces of a whole boundary bound, numbered from 1 in the order of their least corners."""
     polygons = polygons_of(pieces)
     return [Feature(number, [ring.corners for ring in rings], scale) for number, rings in enumerate(polygons, 1)]
-
-
-class Text(NamedTuple):
-    """The Well-Known Text of a layer, and how far a corner was moved by rounding at most, in the world's unit."""
-
-    wkt: str
-    moved: float
-
-
-class Rounding:
-    """Writes GeoJSON's positions as a store's whole numbers, and notes how far a corner was moved at most."""
-
-    def __init__(self, scale: MapScale) -> None:
-        self.scale, self.moved = scale, Fraction(0)
-
-    def position(self, given: object) -> str:
-        if not isinstance(given, list) or len(given) < 2:
-            raise ValueError("a position is a list of two numbers")
-        x, y = exact(given[0]), exact(given[1])
-        near = self.scale.scale.nearest(x, y)
-        there = self.scale.scale.world((*near, 1))
-        self.moved = max(self.moved, abs(there[0] - x), abs(there[1] - y))
-        return f"{near[0]} {near[1]}"
-
-    def ring(self, given: object) -> str:
-        return bracketed(given, self.position)
-
-    def polygon(self, given: object) -> str:
-        return bracketed(given, self.ring)
-
-
-def bracketed(given: object, spell: Callable[[object], str]) -> str:
-    if not isinstance(given, list) or not given:
-        raise ValueError("coordinates are lists of rings, and these of positions")
-    return "(" + ", ".join(spell(one) for one in given) + ")"
-
-
-def text_of(geometry: object, scale: MapScale) -> Text:
-    """The text of a GeoJSON Polygon or MultiPolygon, each corner at the nearest whole place of the store."""
-    kind = geometry.get("type") if isinstance(geometry, dict) else None
-    given = geometry.get("coordinates") if isinstance(geometry, dict) else None
-    if kind not in ("Polygon", "MultiPolygon") or not isinstance(given, list):
-        raise ValueError("a Polygon or a MultiPolygon with coordinates is wanted")
-    rounding = Rounding(scale)
-    polygons = [given] if kind == "Polygon" and given else given
-    text = bracketed(polygons, rounding.polygon) if polygons else "EMPTY"
-    return Text(f"MULTIPOLYGON {text}", float(rounding.moved))

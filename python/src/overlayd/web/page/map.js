@@ -1,7 +1,6 @@
 // The page: it reads the front's layers, draws them, asks where a click lies, and defines layers.
 
 import {ask, at, send, tell, telling} from "./ask.js";
-import {described, finder, titled} from "./features.js";
 import {showColumns, showLayers, showPlaces, showStatus, summary, toldOf} from "./panel.js";
 
 const LOOKS = 2000;    // milliseconds between two looks at the version
@@ -17,7 +16,6 @@ async function refresh() {
   page.layers = (await ask("collections")).collections;
   const {plot, state, layers} = page;
   showStatus(state);
-  at("finding").hidden = state.map === null;
   showLayers(layers, plot, state, drop);
   for (const name of [...plot.drawn.keys()]) {
     if (!layers.some(layer => layer.id === name)) plot.forget(name);
@@ -73,20 +71,11 @@ async function define(id, definition) {
 async function locate(x, y) {
   const found = await ask(`locate?x=${encodeURIComponent(x)}&y=${encodeURIComponent(y)}`);
   showPlaces(found);
-  page.plot.asked(found.point, found.features?.length ? found.features.map(described) : [summary(found.places)]);
+  page.plot.asked(found.point, [summary(found.places)]);
   tell("", false, "told-asking");
 }
 
-// Shows a feature that was found by its name.
-function show(feature) {
-  const bounds = page.plot.bounds(feature);
-  page.plot.fit([bounds]);
-  const middle = [(bounds[0] + bounds[2]) / 2, (bounds[1] + bounds[3]) / 2];
-  page.plot.told(middle, [described({...feature, name: titled(feature, page.state.name_by)})]);
-}
-
 function listen() {
-  finder(() => page.plot.drawn.get(page.state.map)?.features ?? [], () => page.state.name_by, show);
   const {map} = page.plot, form = at("asking"), defining = at("define"), {id, definition} = defining.elements;
   if (page.state.geographic) [form.elements.x.placeholder, form.elements.y.placeholder] = ["longitude", "latitude"];
   map.on("click", ({latlng}) => telling(async () => {
@@ -122,8 +111,7 @@ async function look() {
     const state = await ask("status").catch(fault => tell(`the front does not answer: ${fault.message}`, true));
     if (!state) continue;
     tell("");
-    const moved = state.version !== page.state.version || state.map_revision !== page.state.map_revision;
-    if (moved || page.waiting) await telling(refresh);
+    if (state.version !== page.state.version || page.waiting) await telling(refresh);
     else if (`${state.durable} ${state.lost}` !== `${page.state.durable} ${page.state.lost}`) showStatus(page.state = state);
   }
 }

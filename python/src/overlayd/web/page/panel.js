@@ -34,7 +34,6 @@ function button(text, title, action) {
 }
 
 function kind(layer) {
-  if (layer.features !== undefined) return `${layer.features} features`;
   return layer.definition ? `= ${layer.definition}` : "base layer";
 }
 
@@ -53,7 +52,7 @@ function row(layer, place, plot, state, drop) {
   text.append(make("span", layer.id, "name"), make("code", kind(layer)), told);
   const tools = make("span", undefined, "tools");
   if (layer.box) tools.append(button("\u2316", "go there", () => plot.fit([layer.box])));
-  if (state.writable && layer.features === undefined) tools.append(button("\u00d7", `drop ${layer.id}`, () => drop(layer.id)));
+  if (state.writable) tools.append(button("\u00d7", `drop ${layer.id}`, () => drop(layer.id)));
   made.append(box, swatch, text, tools);
   return made;
 }
@@ -68,9 +67,8 @@ export function showColumns(built) {
   at("columns").replaceChildren(...built.map(is => make("i", "", is ? "built" : "")));
 }
 
-export function showPlaces({places, features = [], asked: [x, y, w], exact}) {
-  const rows = [...features.map(({name, place}) => [name, place]), ...Object.entries(places)];
-  at("places").replaceChildren(...rows.map(([name, place]) => {
+export function showPlaces({places, asked: [x, y, w], exact}) {
+  at("places").replaceChildren(...Object.entries(places).map(([name, place]) => {
     const made = make("tr");
     made.append(make("td", name), make("td", place, place));
     return made;

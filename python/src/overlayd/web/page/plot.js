@@ -90,12 +90,6 @@ export class Plot {
       renderer: this.renderers.tiles, interactive: false, smoothFactor: 0, color: "#1d7d4f", weight: 2}));
   }
 
-  // The box of a feature: least x and y, greatest x and y.
-  bounds(feature) {
-    const box = L.geoJSON(feature, {coordsToLatLng: this.placed}).getBounds();
-    return [box.getWest(), box.getSouth(), box.getEast(), box.getNorth()];
-  }
-
   // Marks the point that was asked, and tells what is there.
   asked([x, y], contents) {
     this.told([x, y], contents);
