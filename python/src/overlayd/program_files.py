@@ -12,6 +12,7 @@ from . import progress
 from .ending import Unusable
 
 TOP = pathlib.Path(__file__).resolve().parents[3]
+BROUGHT = pathlib.Path(__file__).resolve().parent / "bin"  # of a wheel
 OVERLAY = [sys.executable, str(pathlib.Path(__file__).resolve().parent / "__main__.py")]  # this command itself
 LIVE, FEATURES = "overlay_live", "overlay_features"
 BUILDER, BUILD_SECONDS = "python/lab/overlayd_lab/unproved.py", 120
@@ -30,9 +31,9 @@ def found_program(name: str = LIVE) -> str:
 
 
 def program_there(name: str) -> str | None:
-    """The program in crates/*/out, where the gate builds it, or at the top, where it is built unproved, or on the path.
-    """
-    built = [file for file in (TOP / "crates" / name / "out" / name, TOP / name) if file.is_file()]
+    """The program that a wheel has, or in crates/*/out, where the gate builds it, or at the top, where it is built
+    unproved, or on the path."""
+    built = [file for file in (BROUGHT / name, TOP / "crates" / name / "out" / name, TOP / name) if file.is_file()]
     return str(built[0]) if built else shutil.which(name)
 
 

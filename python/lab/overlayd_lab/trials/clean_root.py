@@ -26,6 +26,8 @@ from overlayd_lab import TOP, web_front
 from overlayd_lab.counting import Tries, Words
 
 SUITE, MIRROR = "bookworm", "http://deb.debian.org/debian"
+DEPENDS = ("python3", "python3-cachetools", "python3-click", "python3-flask", "python3-gdal", "python3-numpy",
+           "python3-pip", "python3-pyproj", "python3-tqdm", "python3-venv", "python3-waitress")
 # What lintian says of a package for which nobody has chosen a licence.
 EXPECTED = {"copyright-without-copyright-notice"}
 # What dpkg, apt and Python write wherever something is installed.
@@ -77,21 +79,22 @@ class Root:
 def base_root(folder: pathlib.Path) -> pathlib.Path:
     """A root of Debian's base and Python."""
     web_front.need("debootstrap", "debootstrap")
-    words = ["debootstrap", "--variant=minbase", "--include=python3", SUITE, folder / "base", MIRROR]
+    include = f"--include={','.join(DEPENDS)}"
+    words = ["debootstrap", "--variant=minbase", include, SUITE, folder / "base", MIRROR]
     done = subprocess.run([str(word) for word in words], stdout=subprocess.DEVNULL)
     if done.returncode:
         sys.exit(f"debootstrap: status {done.returncode}")
     return folder / "base"
 
 
-def made_release(programs: pathlib.Path | None, folder: pathlib.Path) -> tuple[pathlib.Path, pathlib.Path]:
-    """The archive and the package."""
-    words = [sys.executable, TOP / "release/make", "--out", folder, *(["--programs", programs] if programs else [])]
+def made_release(programs: pathlib.Path | None, folder: pathlib.Path) -> dict[str, pathlib.Path]:
+    """What is made, by its endings."""
+    words = [TOP / "release/make", "--out", folder, *(["--programs", programs] if programs else [])]
     environment = {"SOURCE_DATE_EPOCH": "1700000000", **os.environ}
     done = subprocess.run([str(word) for word in words], capture_output=True, text=True, check=False, env=environment)
     if done.returncode:
         sys.exit(done.stderr)
-    return next(folder.glob("*.tar.gz")), next(folder.glob("*.deb"))
+    return {path.suffix: path for path in folder.iterdir()}
 
 
 def try_uses(tries: Tries, root: Root, how: str, path: str) -> None:
@@ -105,7 +108,7 @@ def try_uses(tries: Tries, root: Root, how: str, path: str) -> None:
     def ran(*words: str) -> Done:
         return root.ran(*words, user="nobody", path=path)
 
-    done = ran("overlay", "nc.geojson", "--only-make")
+    done = ran("overlay", "show", "nc.geojson", "--only-make")
     tries.that(done.returncode == 0, f"{how}: a first map: {done.stderr.strip().splitlines()[-1:]}")
     done = ran("overlay", "which", "--store", "nc.overlay/nc.db", "-78.64", "35.77")
     tries.that(done.stdout == "Wake\n", f"{how}: Raleigh is in Wake")
@@ -115,9 +118,9 @@ def try_uses(tries: Tries, root: Root, how: str, path: str) -> None:
     tries.that(done.returncode == 0 and (place / "o.csv").is_file(), f"{how}: a map of any size is checked")
     done = ran("python3", "-c", SERVED)
     tries.that(done.stdout == "100\n0\n", f"{how}: the front serves 100 features and ends with 0 {done.stderr.strip()}")
-    done = ran("overlay", "none.geojson", "--only-make")
+    done = ran("overlay", "show", "none.geojson", "--only-make")
     tries.that(done.returncode == 2 and done.stderr.count("\n") == 1, f"{how}: {done.stderr.strip()}")
-    done = ran("overlay", "nc.gpkg", "--only-make")
+    done = ran("overlay", "show", "nc.gpkg", "--only-make")
     tries.that(done.returncode == 2 and len(list(place.iterdir())) == 3, f"{how}: {done.stderr.strip()}")
 
 
@@ -152,6 +155,20 @@ def try_archive(tries: Tries, root: Root, archive: pathlib.Path) -> None:
     try_uses(tries, root, "archive", f"/opt/{name}/bin:/usr/bin:/bin")
 
 
+def try_wheel(tries: Tries, root: Root, wheel: pathlib.Path) -> None:
+    """The wheel, in an environment that sees Debian's numpy, and the programs that it has."""
+    shutil.copy(wheel, root.folder / "tmp" / wheel.name)
+    for words in (["python3", "-m", "venv", "--system-site-packages", "/opt/own"],
+                  ["/opt/own/bin/pip", "-q", "install", "--no-index", f"/tmp/{wheel.name}"]):
+        done = root.ran(*words)
+        tries.that(done.returncode == 0, f"wheel: {' '.join(words[:4])} {done.stderr.strip()}")
+    asked = "from overlayd.program_files import found_program; print(found_program('overlay_features'))"
+    told = root.ran("/opt/own/bin/python", "-c", asked).stdout.strip()
+    tries.that(told.endswith("/overlayd/bin/overlay_features"), f"wheel: its own program is found: {told}")
+    done = root.ran("/opt/own/bin/overlay", "check", "/tmp/maps/nc.geojson", "--out", "/tmp/own.csv")
+    tries.that(done.returncode == 0, f"wheel: its command checks a map {done.stderr.strip()}")
+
+
 def try_lintian(tries: Tries, package: pathlib.Path) -> None:
     """What lintian says of the package."""
     web_front.need("lintian", "lintian")
@@ -180,11 +197,12 @@ def main() -> int:
     words, tries = words_of(__doc__), Tries()
     with tempfile.TemporaryDirectory() as made:
         folder = pathlib.Path(made)
-        archive, package = made_release(words.programs, folder / "release")
+        made_files = made_release(words.programs, folder / "release")
         root = Root(copied_root(words.base, folder))
-        try_package(tries, root, package)
-        try_archive(tries, root, archive)
-        try_lintian(tries, package)
+        try_package(tries, root, made_files[".deb"])
+        try_archive(tries, root, made_files[".gz"])
+        try_wheel(tries, root, made_files[".whl"])
+        try_lintian(tries, made_files[".deb"])
     return tries.end()
 
 

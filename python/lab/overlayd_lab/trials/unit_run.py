@@ -188,7 +188,7 @@ def main() -> int:
     words, tries = words_of(__doc__), Tries()
     with tempfile.TemporaryDirectory() as made:
         folder = pathlib.Path(made)
-        _, package = made_release(words.programs, folder / "release")
+        package = made_release(words.programs, folder / "release")[".deb"]
         root = with_systemd(copied_root(words.base, folder))
         shutil.copy(package, root / "root/overlayd.deb")
         for name in ("city", "parcels"):

@@ -1,1 +1,0 @@
-"""What each command of release/ does, in the module of its name."""
