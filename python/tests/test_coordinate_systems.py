@@ -6,7 +6,9 @@ import subprocess
 import zipfile
 from typing import Any
 
-from overlayd.commands import export as to_geojson, import_ as to_script, pairs, pieces
+import pytest
+
+from overlayd.commands import check, derive, export as to_geojson, import_ as to_script, pairs, pieces
 from overlayd.files import coordinate_systems
 from overlayd.kernel import Ask
 from .common import OVERLAY, SECONDS, Programs, outcome
@@ -195,6 +197,23 @@ class Units(WithSystems):
                     self.assertIn(f"areas are in square {several}, widths in {several}\n", told, system)
         self.ran("import", self.shapefile(None), "--factor", 10, "--output", self.folder / "out.txt")
         self.assertEqual(json.loads((self.folder / "out.scale.json").read_text())["unit"], "1")
+
+    @pytest.mark.features
+    def test_square_metres_are_given_of_metres_alone_and_nothing_is_written_else(self) -> None:
+        for unit, system in (("not known", None), *((unit, text_of(systems[0])) for unit, systems in UNITS.items())):
+            file = self.shapefile(system)
+            for question, end, maps in ((pairs, "csv", [file, file]), (pieces, "csv", [file, file]),
+                                        (check, "csv", [file]), (derive, "geojson", ["a", f"a={file}"])):
+                table = self.folder / f"table.{end}"
+                status, output, errors = outcome(question, *maps, "--square-metres", "--out", table, "--factor", 10,
+                                                 "--program", Programs.features)
+                told = (f"no areas in square metres: the unit of the coordinates is {unit}; bring the maps to a system "
+                        "in metres first, as by ogr2ogr -t_srs EPSG:6933, whose areas are true")
+                if unit == "metre":
+                    self.assertEqual((status, table.exists()), (0, True), errors)
+                else:
+                    self.assertEqual((status, output, errors.splitlines()[-1], table.exists()), (2, "", told, False))
+                table.unlink(missing_ok=True)
 
 
 class Unknown(WithSystems):

@@ -12,11 +12,12 @@ from typing import Any
 import geopandas
 import numpy as np
 import pandas as pd
+import pyproj
 import pytest
 from shapely.geometry import LineString, MultiPolygon, Point, Polygon, box
 
 import overlayd
-from overlayd.api.asking import VARIABLE, NoAnswer
+from overlayd.api.asking import VARIABLE, NoAnswer, NotInMetres
 from overlayd.api.overlaying import HOWS
 
 from . import frames_made as made
@@ -146,6 +147,23 @@ def test_the_grid_is_told() -> None:
     assert 0 < told["moved"] <= 0.0005 and told["bends"] == told["bent"] == 0
     own = overlayd.overlay(made.tiles(2), made.tiles(1), grid_size=0.1).attrs["overlayd"]
     assert own["grid"] == "0.1" and "nothing is rounded" in own["told"]
+
+
+@pytest.mark.parametrize("ask", [
+    lambda frame, **more: overlayd.pairs(frame, frame, **more).shared_area.sum(),
+    lambda frame, **more: overlayd.overlay(frame, frame, exact="exact", **more).exact.sum(),
+    lambda frame, **more: overlayd.derive("a", {"a": frame}, **more).attrs["overlayd"]["area"],
+    lambda frame, **more: overlayd.check(pd.concat([frame, frame]), **more).overlaps.shared_area.sum()])
+def test_square_metres_are_given_of_metres_alone(ask: Callable[..., Any]) -> None:
+    """The area of a box on the globe is pyproj's, by many corners along its parallels."""
+    degrees = geopandas.GeoDataFrame(geometry=[box(-78.7, 35.7, -78.6, 35.8)], crs="EPSG:4326")
+    for system, unit in (("EPSG:4326", "degree"), ("EPSG:2263", "US survey foot"), (None, "not known")):
+        with pytest.raises(NotInMetres, match=f"^no areas in square metres: the unit of the coordinates is {unit}; .*"
+                                              r"to_crs\(6933\), whose areas are true$"):
+            ask(degrees.set_crs(system, allow_override=True), square_metres=True)
+    globe, _ = pyproj.Geod(ellps="WGS84").geometry_area_perimeter(Polygon(
+        [(x, 35.7) for x in np.linspace(-78.7, -78.6, 101)] + [(x, 35.8) for x in np.linspace(-78.6, -78.7, 101)]))
+    assert float(ask(degrees.to_crs(6933), square_metres=True)) == pytest.approx(globe, rel=1e-7)
 
 
 def test_empty_frames_make_empty_results() -> None:

@@ -29,6 +29,7 @@ class Check(Exact):
         self.addParameter(QgsProcessingParameterField(ID, "Field that names features", parentLayerParameterName=INPUT,
                                                       optional=True))
         self.add_grid()
+        self.add_metres()
         for name, told in ((OVERLAPS, "Overlaps"), (GAPS, "Gaps")):
             self.add_sink(name, told, optional=True)
             self.addOutput(QgsProcessingOutputNumber(COUNTS[name], f"Number of {told.lower()}"))

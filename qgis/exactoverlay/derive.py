@@ -30,6 +30,7 @@ class Derive(Exact):
         self.addParameter(QgsProcessingParameterMultipleLayers(LAYERS, "Layers", QgsProcessing.TypeVectorPolygon))
         self.addParameter(QgsProcessingParameterString(EXPRESSION, "Expression", "A & B"))
         self.add_grid()
+        self.add_metres()
         self.add_sink(OUTPUT, "Region")
         self.addOutput(QgsProcessingOutputNumber(AREA, "Area"))
 

@@ -8,13 +8,13 @@ from typing import Any
 
 from qgis.core import (QgsFeature, QgsFeatureSink, QgsField, QgsGeometry, QgsProcessing,
                        QgsProcessingAlgorithm, QgsProcessingException, QgsProcessingLayerPostProcessorInterface,
-                       QgsProcessingParameterDefinition, QgsProcessingParameterFeatureSink,
-                       QgsProcessingParameterFeatureSource, QgsProcessingParameterField, QgsProcessingParameterString,
-                       QgsWkbTypes)
+                       QgsProcessingParameterBoolean, QgsProcessingParameterDefinition,
+                       QgsProcessingParameterFeatureSink, QgsProcessingParameterFeatureSource,
+                       QgsProcessingParameterField, QgsProcessingParameterString, QgsUnitTypes, QgsWkbTypes)
 from qgis.PyQt.QtCore import QVariant
 
 from . import finding, reading
-from .ext.overlayd.api.asking import NoAnswer, grid_of, refusals_told
+from .ext.overlayd.api.asking import NoAnswer, grid_of, need_metres, refusals_told
 from .ext.overlayd.grid_pass.default_grid import Unit
 from .ext.overlayd.kernel import Ask, Cancelled, MapFault, Wants
 from .ext.overlayd.kernel.running import ProgramEnded
@@ -23,6 +23,7 @@ from .running import Answer, GoesOn, answered
 STYLES = pathlib.Path(__file__).with_name("styles")
 GRID_HELP = (" The grid is in units of the layers, as 0.001. Empty: the digits that all coordinates have already, else "
              "a thousandth of a metre or foot, or 0.00000001 degrees.")
+REPROJECT = "Reproject layer, to EPSG:6933"
 TEXT, DOUBLE = QVariant.String, QVariant.Double
 
 
@@ -45,7 +46,7 @@ class Exact(QgsProcessingAlgorithm):
     """An algorithm of this provider: what it is called, and what it does."""
 
     NAME = TITLE = HELP = ""
-    GRID = "GRID"
+    GRID, METRES = "GRID", "SQUARE_METRES"
     FAULTS: tuple[type[Exception], ...] = (ValueError,)
     CANCELLED = "cancelled; nothing is written"
 
@@ -77,6 +78,10 @@ class Exact(QgsProcessingAlgorithm):
         """A text, so that 0.001 is a thousandth and not the double beside it."""
         self.addParameter(QgsProcessingParameterString(self.GRID, "Grid size (empty: automatic)", optional=True))
 
+    def add_metres(self) -> None:
+        told = "Refuse a layer whose areas are not in square metres"
+        self.add_advanced(QgsProcessingParameterBoolean(self.METRES, told, defaultValue=False))
+
     def add_fields(self, name: str, layer: str, told: str) -> None:
         self.addParameter(QgsProcessingParameterField(name, told, parentLayerParameterName=layer, optional=True,
                                                       allowMultiple=True))
@@ -103,8 +108,11 @@ class Exact(QgsProcessingAlgorithm):
         size = self.parameterAsString(parameters, self.GRID, context).strip() or None
         if reading.unit_of(crs) is Unit.DEGREE:
             feedback.pushWarning("areas are in square degrees: for square metres reproject the layer first")
+        in_metres = self.parameterAsBool(parameters, self.METRES, context)
 
         def asked(path: str, goes_on: GoesOn) -> Answer:
+            if in_metres:
+                need_metres(QgsUnitTypes.encodeUnit(crs.mapUnits()) if crs.isValid() else None, REPROJECT)
             return question(Ask(path, Wants.OUTLINES, grid_of(size, reading.unit_of(crs)), goes_on))
 
         try:

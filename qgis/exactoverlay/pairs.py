@@ -30,6 +30,7 @@ class Pairs(TwoLayers):
     def initAlgorithm(self, config: Any = None) -> None:
         self.add_layers()
         self.add_grid()
+        self.add_metres()
         self.addParameter(QgsProcessingParameterBoolean(TOUCHES, "Rows for pairs that only touch", defaultValue=False))
         self.add_sink(OUTPUT, "Pairs")
         for name, told in ((OVERLAPPING, "Pairs that overlap"), (TOUCHING, "Pairs that touch"), (AREA, "Shared area")):

@@ -28,6 +28,7 @@ class Pieces(TwoLayers):
         self.add_layers()
         self.addParameter(QgsProcessingParameterEnum(HOW, "Pieces", HOWS, defaultValue=0))
         self.add_grid()
+        self.add_metres()
         self.add_sink(OUTPUT, "Pieces")
         for name, told in ((COUNT, "Number of pieces"), (AREA, "Area of all")):
             self.addOutput(QgsProcessingOutputNumber(name, told))

@@ -115,6 +115,16 @@ def test_what_cannot_be_done_is_said(qgis: Any, maps: pathlib.Path) -> None:
         run("derive", LAYERS=[own], EXPRESSION="A - (A", OUTPUT="memory:")
 
 
+def test_square_metres_of_degrees_are_refused(qgis: Any) -> None:
+    from qgis.core import QgsProcessingException
+
+    for system, unit in (("EPSG:4326", "degrees"), ("EPSG:2263", "US survey feet"), ("", "not known")):
+        with pytest.raises(QgsProcessingException, match="no areas in square metres: .* Reproject layer, to EPSG:6933"):
+            run("check", INPUT=layer([SQUARE], system), SQUARE_METRES=True, OVERLAPS="memory:", GAPS="memory:")
+    assert run("check", INPUT=layer([SQUARE, SQUARE]), SQUARE_METRES=True, OVERLAPS="memory:",
+               GAPS="memory:")["NUMBER_OF_OVERLAPS"] == 1
+
+
 def test_a_run_ends_soon_after_it_is_cancelled(qgis: Any) -> None:
     first, second = (layer([wave(2000, place + shift) for place in range(25)]) for shift in (0, 3))
     words = {"INPUT": first, "OVERLAY": second, "HOW": 1, "OUTPUT": "memory:"}

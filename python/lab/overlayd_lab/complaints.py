@@ -184,8 +184,9 @@ def of_numbers() -> Iterator[Row]:
                         for one, two in there))
     degrees = frame(box(8, 48, 9, 49), crs=4326)
     yield ("Areas of a map in degrees mean nothing", f"{degrees.area[0]:g}, and a warning",
-           f"{overlayd.pairs(degrees, degrees).shared_area[0]:g} square degrees, which the command and the plugin say, "
-           "with the way to go: bring it to a system in metres")
+           f"{overlayd.pairs(degrees, degrees).shared_area[0]:g} square degrees, which the command and the plugin say; "
+           f"`square_metres=True` {said(lambda: overlayd.pairs(degrees, degrees, square_metres=True))}, with the way "
+           "to go: to_crs(6933)")
 
 
 def frames_of_stars() -> list[Any]:

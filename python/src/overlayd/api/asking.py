@@ -21,6 +21,20 @@ GridSize = float | str | Fraction | None
 WORDS = {UNREADABLE: "the expression cannot be read", NO_OUTLINES: "this overlay_features makes no outlines"}
 
 
+class NotInMetres(ValueError):
+    """Areas are asked for in square metres, and coordinates count another unit: the way to go says how they would."""
+
+    def __init__(self, unit: str | None, way: str) -> None:
+        super().__init__(f"no areas in square metres: the unit of the coordinates is {unit or 'not known'}; bring the "
+                         f"maps to a system in metres first, as by {way}, whose areas are true")
+
+
+def need_metres(unit: str | None, way: str) -> None:
+    """Refuses coordinates of another unit than the metre, before anything is asked."""
+    if unit not in ("metre", "meters"):
+        raise NotInMetres(unit, way)
+
+
 class NoAnswer(Exception):
     """The program has no answer to some features, or to a whole question: by the number of a fault."""
 

@@ -14,11 +14,12 @@ from .frames import TOLD, Frame, column_of, faults_told, need_polygons, shapes_o
 
 
 def derive(expression: str, layers: Mapping[str, Frame], *, grid_size: GridSize = None,
-           program: str | None = None) -> Frame:
+           square_metres: bool = False, program: str | None = None) -> Frame:
     """The region of an expression over frames by their names, as "(flood | slide) - parks", a polygon a row: `&`
     intersection, which binds tightest, `|` union, `-` difference, `^` symmetric difference.
 
-    A frame is the union of its features. .attrs["overlayd"] has the whole area, as a fraction with its bound."""
+    A frame is the union of its features. .attrs["overlayd"] has the whole area, as a fraction with its bound; by
+    square_metres frames in another unit are refused (NotInMetres)."""
     names = sorted(set(NAME.findall(expression)) & set(layers))
     own = {name: layers[name] for name in names}
     if not NAME.search(expression):
@@ -27,7 +28,7 @@ def derive(expression: str, layers: Mapping[str, Frame], *, grid_size: GridSize 
     systems = [frame.crs for frame in own.values() if frame.crs is not None]
     if any(one != systems[0] for one in systems):
         raise ValueError(f"{', '.join(names)} have different systems of coordinates; bring them to one by to_crs")
-    ask = asked(program, grid_size, unit_of(*own.values()), Wants.OUTLINES)
+    ask = asked(program, grid_size, unit_of(*own.values(), square_metres=square_metres), Wants.OUTLINES)
     columns = {name: column_of(frame) for name, frame in own.items()}
     with faults_told(**own), refusals_told(expression):
         try:

@@ -15,6 +15,7 @@ from ..grid_pass.default_grid import Unit
 from ..grid_pass.telling import spelled
 from ..kernel.columns import Column, of_bytes
 from ..kernel.laying import Laid, MapFault
+from .asking import need_metres
 
 Frame = Any  # a GeoDataFrame: geopandas has no types
 POLYGONS = ("Polygon", "MultiPolygon")
@@ -68,9 +69,12 @@ def warn_of_systems(first: Frame, second: Frame, level: int) -> None:
         _crs_mismatch_warn(first, second, stacklevel=level + 1)
 
 
-def unit_of(*frames: Frame) -> Unit:
-    """What the coordinates of the first frame with a system count."""
+def unit_of(*frames: Frame, square_metres: bool = False) -> Unit:
+    """What the coordinates of the first frame with a system count: metres, where areas are to be in square metres."""
     system = next((frame.crs for frame in frames if frame.crs is not None), None)
+    if square_metres:
+        axes = [] if system is None else system.axis_info
+        need_metres(axes[0].unit_name if axes else None, "to_crs(6933)")
     if system is None:
         return Unit.UNKNOWN
     return Unit.DEGREE if system.is_geographic else Unit.LENGTH

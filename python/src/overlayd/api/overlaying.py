@@ -19,13 +19,14 @@ from .remains import with_remains
 
 def overlay(df1: Frame, df2: Frame, how: str = "intersection", keep_geom_type: bool | None = None,
             make_valid: bool = True, *, grid_size: GridSize = None, exact: str | None = None, others: str = "raise",
-            program: str | None = None) -> Frame:
+            square_metres: bool = False, program: str | None = None) -> Frame:
     """As geopandas.overlay, exactly on a grid: the rows, columns, index, order and warnings are its.
 
     grid_size is in units of the frames, as 0.001 or "1/3"; without it the default grid is taken. exact names a column
     for areas as fractions. Outlines that cross themselves need no repair, so make_valid=False only refuses them. Points
     and lines that polygons have in common, which keep_geom_type=False asks for, are of GEOS. Frames of points and lines
-    are refused, or by others="geopandas" left to geopandas.overlay. .attrs["overlayd"] says what the grid did."""
+    are refused, or by others="geopandas" left to geopandas.overlay; so are, by square_metres, frames in another unit
+    (NotInMetres). .attrs["overlayd"] says what the grid did."""
     if how not in HOWS:
         raise ValueError(f"`how` was '{how}' but is expected to be in {HOWS}")
     if isinstance(df1, geopandas.GeoSeries) or isinstance(df2, geopandas.GeoSeries):
@@ -35,9 +36,10 @@ def overlay(df1: Frame, df2: Frame, how: str = "intersection", keep_geom_type: b
     warn_of_systems(df1, df2, 2)
     need_polygons(df1=df1, df2=df2)
     need_valid(make_valid, df1, df2)
+    unit = unit_of(df1, df2, square_metres=square_metres)
     if how == "intersection" and are_apart(df1, df2):
         return tables.empty(df1, df2)
-    ask = asked(program, grid_size, unit_of(df1, df2), Wants.OUTLINES)
+    ask = asked(program, grid_size, unit, Wants.OUTLINES)
     with faults_told(df1=df1, df2=df2), refusals_told("overlay"):
         # An identity has a union's types of columns, by what the other map has alone.
         wanted = "union" if how == "identity" else how

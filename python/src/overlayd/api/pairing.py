@@ -35,9 +35,10 @@ PREDICATES = {
 
 def pairs(left_df: Frame, right_df: Frame, how: str = "inner", predicate: str = "intersects", lsuffix: str = "left",
           rsuffix: str = "right", *, grid_size: GridSize = None, exact: str | None = None, others: str = "raise",
-          program: str | None = None) -> Frame:
+          square_metres: bool = False, program: str | None = None) -> Frame:
     """As geopandas.sjoin, with columns more: shared_area, in square units of the frames; shared_area_bound, by how much
-    it may be off; relation. exact names a column for the area as a fraction.
+    it may be off; relation. exact names a column for the area as a fraction. By square_metres frames in another unit
+    are refused (NotInMetres).
 
     Beside sjoin's predicates: shares_area (an area in common, however small), equals. For two polygons within is
     covered_by, and contains is covers. Rows are in the order of the left frame, then of the right one; by how="right"
@@ -51,7 +52,7 @@ def pairs(left_df: Frame, right_df: Frame, how: str = "inner", predicate: str = 
     columns = [AREA, BOUND, RELATION, *([] if exact is None else [exact])]
     need_free(columns, left_df=left_df, right_df=right_df)
     wants = Wants.NOTHING if exact is None else Wants.OUTLINES | Wants.FRACTIONS
-    ask = asked(program, grid_size, unit_of(left_df, right_df), wants)
+    ask = asked(program, grid_size, unit_of(left_df, right_df, square_metres=square_metres), wants)
     with faults_told(left_df=left_df, right_df=right_df), refusals_told("pairs"):
         rows = answered(pairs_of_maps(column_of(left_df), column_of(right_df), ask), left_df.index, right_df.index)
     own = rows.part(chosen(rows, predicate))

@@ -13,6 +13,7 @@ from typing import Any
 import click
 
 from .. import ending
+from ..api.asking import NotInMetres, need_metres
 from ..ending import Unusable
 from ..files import coordinate_systems, gdal_files, map_columns, text_columns, writing
 from ..files.arrow_reading import ReadingFault
@@ -36,7 +37,7 @@ from ..words import ABOVE_ZERO, FILE, Command, Words, flag, option, program, sub
 
 NAMED_MAX = 10  # so many features are named where something is reported of them
 UNITS = {"degree": Unit.DEGREE, None: Unit.UNKNOWN}
-IN_METRES = "for square metres bring the map to a system in metres first, as by ogr2ogr -t_srs EPSG:32632"
+TO_METRES = "ogr2ogr -t_srs EPSG:6933"
 PROGRAM = program(FEATURES)
 
 
@@ -47,6 +48,7 @@ def words(sides: str) -> list[click.Parameter]:
                "digits, else 1e-8 degrees or 0.001 metres or feet)", ABOVE_ZERO),
         option("--factor", "the same as so many units in one of the maps': 1000 is --grid 0.001", ABOVE_ZERO),
         click.Option(["--bend"], is_flag=True, hidden=True),  # long edges are bent without it, too
+        flag("--square-metres", "refuses maps whose areas would be in another unit (2)"),
         flag("--node", "takes corners into borders that they lie on, also where nothing is rounded")]
     for side in sides:
         up = side.upper()
@@ -100,11 +102,14 @@ class Question:
         for one, side in zip(self.maps, sides):
             self.tell_map(one, self.words[f"{side}_id"])
         check_systems(self.maps)
-        if unit := coordinate_systems.unit_of(self.system()):
+        unit = coordinate_systems.unit_of(self.system())
+        if self.words["square_metres"]:
+            need_metres(unit, TO_METRES)
+        if unit:
             several = unit.replace("foot", "feet") if "foot" in unit else f"{unit}s"
             self.say(f"areas are in square {several}, widths in {several}")
             if unit == "degree":
-                self.say(IN_METRES)
+                self.say(f"for square metres bring the map to a system in metres first, as by {TO_METRES}")
         return self.maps
 
     def tell_map(self, read_map: MapColumn, name_by: str | None) -> None:
@@ -170,7 +175,7 @@ class Question:
 
 # Words that no task knows of.
 ELSEWHERE = ("processes", "dask", "work", "program", "out", "exact", "width", "outlines", "pieces", "gaps", "a_id",
-             "b_id",
+             "b_id", "square_metres",
              "first", "second", "names", "no_audit", "bend")
 FAULTS = {78: "a border near it is too long for one pass", 79: "too many borders in one place",
           80: "an area that 128 bits do not hold", 82: "a ring that is not closed, or of fewer than three corners"}
@@ -280,7 +285,7 @@ def status_of(question: Question, asked: Asked) -> int:
         asked(question)
     except TasksLeft as left:
         question.say(str(left))
-    except (ReadingFault, AskFault) as fault:
+    except (ReadingFault, AskFault, NotInMetres) as fault:
         return question.refused(str(fault), 2)
     except MapFault as fault:
         return question.refused(map_fault_text(fault, question.maps), 2)
