@@ -1,8 +1,8 @@
 -- Points dealt out to rings, and rings to features.
 use Rattle.std.proofs.Common.{◌≡◌, ℕ, zero, suc, ◌+◌, ◌-◌, ◌<◌, ◌≤◌, refl, ap, sym, ◌∙◌, arith, List, [], ◌∷◌, ◌++◌, length, take, drop}
 use Rattle.std.specs.Prelude.{get_or, sum_by, min}
-use Rattle.std.proofs.lemmas.List.{append-nil, append_assoc, take-take, take_min, drop_min, drop-drop, drop-take, drop_all, drop_more, length-drop}
-use Rattle.std.proofs.lemmas.List.Sums.{sum_by-cons}
+use Rattle.std.proofs.lemmas.List.{append-nil, append_assoc, take_all, take-append-le, drop-append-le, take-take, take_min, drop_min, drop-drop, drop-take, drop_all, drop_more, length-drop}
+use Rattle.std.proofs.lemmas.List.Sums.{sum_by-cons, sum_by-append}
 use Rattle.block_reading.specs.Block.{dealt}
 
 -- the sum of counts
@@ -73,3 +73,40 @@ feature_more ns i made cs own others xs front after all lt e f g h so_far =
 pub features_all : {A : Type 0} (ns : List ℕ) (i : ℕ) (made : List (List (List A))) (rest : List (List A)) (all : List (List (List A))) → length ns ≤ i → made ++ dealt (drop i ns) rest ≡ all → made ≡ all
 features_all ns i made rest all past so_far =
     sym (append-nil made) ∙ ap (λ ks. made ++ dealt ks rest) (sym (drop_all i ns past)) ∙ so_far
+
+-- ---- rings in a row, one after another
+pub in_all-push : (cs : List ℕ) (n : ℕ) → in_all (cs ++ n ∷ []) ≡ in_all cs + n
+in_all-push cs n =
+    let both : in_all (cs ++ n ∷ []) ≡ in_all cs + in_all (n ∷ []) = sum_by-append (λ k. k) cs (n ∷ []) in
+    let one : in_all (n ∷ []) ≡ n + in_all [] = in_all-cons n [] in
+    let none : in_all [] ≡ 0 = refl in
+    omega (arith, both, one, none)
+
+empty : {A : Type 0} (xs : List A) → 0 ≡ length xs → xs ≡ []
+empty [] e = refl
+empty (x ∷ xs) e = absurd (omega (arith, e))
+
+pub dealt-push : {A : Type 0} (cs : List ℕ) (xs : List A) (n : ℕ) (ys : List A) → in_all cs ≡ length xs → n ≡ length ys → dealt (cs ++ n ∷ []) (xs ++ ys) ≡ dealt cs xs ++ ys ∷ []
+dealt-push [] xs n ys e f =
+    ap (λ zs. take n (zs ++ ys) ∷ []) (empty xs e) ∙ ap (λ zs. zs ∷ []) (take_all n ys (omega (arith, f)))
+dealt-push (c ∷ cs) xs n ys e f =
+    let all : c + in_all cs ≡ length xs = sym (in_all-cons c cs) ∙ e in
+    let within : c ≤ length xs = omega (arith, all) in
+    let rest : length (drop c xs) ≡ length xs - c = length-drop c xs in
+    let left : in_all cs ≡ length (drop c xs) = omega (arith, all, rest) in
+    (λ i. take-append-le c xs ys within i ∷ dealt (cs ++ n ∷ []) (drop-append-le c xs ys within i))
+    ∙ ap (λ zs. take c xs ∷ zs) (dealt-push cs (drop c xs) n ys left f)
+
+-- the first of the rings that are left, and those after it
+pub dealt_next : {A : Type 0} (cs : List ℕ) (i : ℕ) (rest own after : List A) → i < length cs → own ≡ take (get_or cs i 0) rest → after ≡ drop (get_or cs i 0) rest
+    → own ∷ dealt (drop (i + 1) cs) after ≡ dealt (drop i cs) rest
+dealt_next cs i rest own after lt e f =
+    (λ j. e j ∷ dealt (drop (i + 1) cs) (f j)) ∙ ap (λ ks. dealt ks rest) (sym (drop_more cs i 0 lt))
+
+pub ring_more : {A : Type 0} (cs : List ℕ) (i : ℕ) (made : List (List A)) (rest own after : List A) (all : List (List A)) → i < length cs → own ≡ take (get_or cs i 0) rest → after ≡ drop (get_or cs i 0) rest
+    → made ++ dealt (drop i cs) rest ≡ all → (made ++ own ∷ []) ++ dealt (drop (i + 1) cs) after ≡ all
+ring_more cs i made rest own after all lt e f so_far =
+    append_assoc made (own ∷ []) (dealt (drop (i + 1) cs) after) ∙ ap (λ ys. made ++ ys) (dealt_next cs i rest own after lt e f) ∙ so_far
+
+pub rings_all : {A : Type 0} (cs : List ℕ) (i : ℕ) (made : List (List A)) (rest : List A) (all : List (List A)) → length cs ≤ i → made ++ dealt (drop i cs) rest ≡ all → made ≡ all
+rings_all cs i made rest all past so_far = sym (append-nil made) ∙ ap (λ ks. made ++ dealt ks rest) (sym (drop_all i cs past)) ∙ so_far

@@ -2,3 +2,8 @@ pub mod FoundLemmas
 pub mod ShownLemmas
 pub mod SumLemmas
 pub mod DealtLemmas
+pub mod CutLemmas
+pub mod LikeLemmas
+pub mod WindowLemmas
+pub mod BorderLemmas
+pub mod LawLemmas

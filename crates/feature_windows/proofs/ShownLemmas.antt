@@ -35,7 +35,7 @@ never : (b : Bool) → b ≡ false → b ≡ true → ⊥
 never true e f = cc
 never false e f = cc
 
-at_push : (k : ℕ) (layers : List (List (List WholePoint))) (rings : List (List WholePoint)) → rings_at k (layers ++ rings ∷ []) ≡ (if length layers == k then rings else rings_at k layers)
+pub at_push : (k : ℕ) (layers : List (List (List WholePoint))) (rings : List (List WholePoint)) → rings_at k (layers ++ rings ∷ []) ≡ (if length layers == k then rings else rings_at k layers)
 at_push zero [] rings = refl
 at_push (suc k) [] rings = rw (zero_suc k) refl
 at_push zero (one ∷ layers) rings = rw (suc_zero (length layers)) refl
@@ -47,7 +47,7 @@ at_end zero (one ∷ layers) e = absurd (never (suc (length layers) == zero) (su
 at_end (suc k) (one ∷ layers) e = at_end k layers (sym (eq_suc (length layers) k) ∙ e)
 
 -- ---- which layers are below a point
-none : {X : Type 0} (xs : List X) → count_by (λ _. false) xs ≡ 0
+pub none : {X : Type 0} (xs : List X) → count_by (λ _. false) xs ≡ 0
 none [] = refl
 none (x ∷ xs) =
     let one : count_by (λ _. false) (x ∷ xs) ≡ 0 + count_by (λ _. false) xs = count-cons (λ _. false) x xs in

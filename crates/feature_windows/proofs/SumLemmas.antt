@@ -7,7 +7,7 @@ use Rattle.std.proofs.lemmas.List.{take_all, take_more}
 use Rattle.overlay_terms.specs.Trees.{Steps}
 use Rattle.feature_windows.specs.Sums.{twice_in_all, IsOf, AreFoundIn}
 use Rattle.feature_windows.specs.declared.found.Found.{Found}
-use Rattle.feature_windows.specs.declared.halving.Window.{Window}
+use Rattle.feature_windows.specs.declared.window.Window.{Window}
 
 -- one more of both
 zip_more : {A B : Type 0} (R : A → B → Type 0) (xs : List A) (ys : List B) (x : A) (y : B) → AllZip R xs ys → R x y → AllZip R (xs ++ x ∷ []) (ys ++ y ∷ [])

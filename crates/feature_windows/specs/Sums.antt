@@ -4,7 +4,7 @@ use Rattle.std.specs.List.{AllZip}
 use Rattle.overlay_terms.specs.Trees.{Steps}
 use Rattle.feature_windows.specs.Boundary.{IsFoundIn}
 use Rattle.feature_windows.specs.declared.found.Found.{Found}
-use Rattle.feature_windows.specs.declared.halving.Window.{Window}
+use Rattle.feature_windows.specs.declared.window.Window.{Window}
 
 -- twice several areas in all
 abbrev pub twice_in_all : List Found → ℤ

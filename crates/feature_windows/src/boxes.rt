@@ -1,4 +1,8 @@
 //! Upright boxes. One whose low end lies beyond its high end holds nothing.
+ghost use Rattle.std.specs.Prelude.{◌≡◌, ◌≤ℤ◌, true};
+ghost use Rattle.near_steps.specs.Cores.{box_of};
+ghost use Rattle.feature_windows.specs.Parts.{IsCut, IsLong};
+
 use block_reading::{Core, FarPoint};
 
 /// The box that holds nothing.
@@ -78,7 +82,11 @@ pub fn is_within(a: &Core, b: &Core) -> bool {
 }
 
 /// The middle of a span.
-fn middle(low: i64, high: i64) -> i64 {
+fn middle(low: i64, high: i64) -> i64
+    requires { low ≤ℤ high }
+    ensures after { low ≤ℤ result }
+    ensures before { result ≤ℤ high }
+{
     low.saturating_add(high.saturating_sub(low) / 2)
 }
 
@@ -91,18 +99,67 @@ pub(crate) fn size(core: &Core, across: bool) -> i64 {
     }
 }
 
-/// A box in halves, by x or by y.
-pub(crate) fn halves(core: &Core, across: bool) -> (Core, Core) {
-    let mut low = *core;
-    let mut high = *core;
+/// Whether a box is two wide, or high, at least.
+pub(crate) fn is_long(core: &Core, across: bool) -> bool
+    ensures { result ≡ true → IsLong across core.now }
+{
     if across {
-        let x = middle(core.low_x, core.high_x);
-        low.high_x = x;
-        high.low_x = x;
+        core.low_x < core.high_x && core.low_x.saturating_add(1) < core.high_x
     } else {
-        let y = middle(core.low_y, core.high_y);
-        low.high_y = y;
-        high.low_y = y;
+        core.low_y < core.high_y && core.low_y.saturating_add(1) < core.high_y
     }
+}
+
+/// A box in halves, by x or by y.
+pub(crate) fn halves(core: &Core, across: bool) -> (Core, Core)
+    requires { IsLong across core.now }
+    ensures { IsCut (box_of core.now) (box_of result.0) (box_of result.1) }
+{
+    if across {
+        halves_across(core)
+    } else {
+        halves_along(core)
+    }
+}
+
+/// A box in halves by x.
+fn halves_across(core: &Core) -> (Core, Core)
+    requires { core.now.low_x ≤ℤ core.now.high_x }
+    ensures { IsCut (box_of core.now) (box_of result.0) (box_of result.1) }
+{
+    let x = middle(core.low_x, core.high_x);
+    let low = Core {
+        low_x: core.low_x,
+        high_x: x,
+        low_y: core.low_y,
+        high_y: core.high_y,
+    };
+    let high = Core {
+        low_x: x,
+        high_x: core.high_x,
+        low_y: core.low_y,
+        high_y: core.high_y,
+    };
+    (low, high)
+}
+
+/// A box in halves by y.
+fn halves_along(core: &Core) -> (Core, Core)
+    requires { core.now.low_y ≤ℤ core.now.high_y }
+    ensures { IsCut (box_of core.now) (box_of result.0) (box_of result.1) }
+{
+    let y = middle(core.low_y, core.high_y);
+    let low = Core {
+        low_x: core.low_x,
+        high_x: core.high_x,
+        low_y: core.low_y,
+        high_y: y,
+    };
+    let high = Core {
+        low_x: core.low_x,
+        high_x: core.high_x,
+        low_y: y,
+        high_y: core.high_y,
+    };
     (low, high)
 }

@@ -5,7 +5,8 @@ ghost use Rattle.sided_pieces.specs.Sided.{sided_of, AreSided};
 ghost use Rattle.feature_windows.specs.Boundary.{AreBoundary};
 
 use crate::fault::WindowsFault;
-use crate::halving::{SEGMENTS_MAX, Window};
+use crate::halving::SEGMENTS_MAX;
+use crate::window::Window;
 use block_reading::Core;
 use crossing_sweep::{PassInput, Strip};
 use layer_expr::StepList;

@@ -8,7 +8,7 @@ ghost use Rattle.feature_windows.specs.Sums.{AreFoundIn};
 
 use crate::fault::WindowsFault;
 use crate::finding::pieces_in;
-use crate::halving::Window;
+use crate::window::Window;
 use block_reading::Core;
 use exact_point::HPoint;
 use layer_expr::StepList;

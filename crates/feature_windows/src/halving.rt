@@ -1,15 +1,17 @@
 //! The parts of a core that one pass each can take: a core with many steps is halved as long as its halves have fewer.
-ghost use Rattle.std.specs.Prelude.{◌≡◌, true, map, IfOk};
-ghost use Rattle.arrange.specs.Marked.{marked_of};
+ghost use Rattle.std.specs.Prelude.{◌≡◌, ◌<◌, ℕ, length, IfOk, IfSome, OnOk};
 ghost use Rattle.near_steps.specs.Cores.{box_of};
-ghost use Rattle.feature_windows.specs.Shown.{AreShown};
+ghost use Rattle.feature_windows.specs.Shown.{rings_at};
+ghost use Rattle.feature_windows.specs.Parts.{IsLong};
+ghost use Rattle.feature_windows.specs.Layers.{layer_rings, rings_for, AddsLike, LookLike};
+ghost use Rattle.feature_windows.specs.Windows.{AreHalves, AreWindows, IsDivided, IsInner};
 
-use crate::boxes::{halves, size};
+use crate::boxes::{halves, is_long, size};
 use crate::fault::WindowsFault;
 use crate::features::Features;
 use crate::layers::{add_near, draw_layers, near};
 use crate::rings::Rings;
-use arrange::MarkedSeg;
+use crate::window::{Near, Window};
 use block_reading::Core;
 use near_steps::NearCore;
 use std::alloc::Global;
@@ -20,27 +22,10 @@ const PARTS_MAX: u64 = 1099511627776;
 /// The most segments that one pass takes.
 pub(crate) const SEGMENTS_MAX: usize = 65536;
 
-/// A feature that counts for a layer, both by their numbers.
-#[derive(Clone, Copy, Debug)]
-pub struct Near {
-    pub feature: usize,
-    pub layer: usize,
-}
-
-/// A part of a core with the rings near it by layer, the part's border last; and what is drawn of them, unless a step is too
-/// long or the part too wide.
-#[derive(Debug, Drop)]
-pub struct Window {
-    pub core: Core,
-    pub(crate) layers: Vec<Rings>,
-    pub(crate) marked: Vec<MarkedSeg>,
-    pub(crate) is_drawn: bool,
-    ghost shown: { is_drawn ≡ true → AreShown (box_of core) layers.items (map marked_of marked.items) },
-}
-
 /// A part with the rings near it, not drawn.
 fn undrawn(alloc: Global, core: Core, layers: Vec<Rings>) -> Window
     ensures core { result.core ≡ core }
+    ensures layers { result.layers.items ≡ layers.items }
 {
     Window {
         core,
@@ -52,7 +37,8 @@ fn undrawn(alloc: Global, core: Core, layers: Vec<Rings>) -> Window
 
 /// A part with the rings near it, drawn where it can be.
 fn part_of(alloc: Global, core: Core, layers: Vec<Rings>) -> Result<Window, WindowsFault>
-    ensures { IfOk result (λ window. window.core ≡ core) }
+    ensures core { IfOk result (λ window. window.core ≡ core) }
+    ensures layers { IfOk result (λ window. window.layers.items ≡ layers.items) }
 {
     let Some(own) = NearCore::of(&core) else {
         return Ok(undrawn(alloc, core, layers));
@@ -89,7 +75,9 @@ fn are_fewer(whole: Option<usize>, first: Option<usize>, second: Option<usize>) 
 }
 
 /// The layers of a part without its border.
-fn inner(part: &Window) -> &[Rings] {
+fn inner(part: &Window) -> &[Rings]
+    ensures { IsInner part.now.layers.items result.now }
+{
     match part.layers.split_last() {
         Some((_, own)) => own,
         None => &part.layers,
@@ -97,11 +85,17 @@ fn inner(part: &Window) -> &[Rings] {
 }
 
 /// Both halves of a part.
-fn halved(alloc: Global, part: &Window, across: bool) -> Result<(Window, Window), WindowsFault> {
+fn halved(alloc: Global, part: &Window, across: bool) -> Result<(Window, Window), WindowsFault>
+    requires { IsLong across part.now.core }
+    ensures { IfOk result (λ both. AreHalves part.now both.0 both.1) }
+{
     let (low, high) = halves(&part.core, across);
-    let first = near(alloc, inner(part), &low)?;
-    let second = near(alloc, inner(part), &high)?;
-    Ok((part_of(alloc, low, first)?, part_of(alloc, high, second)?))
+    let own = inner(part);
+    let lows = near(alloc, own, &low)?;
+    let highs = near(alloc, own, &high)?;
+    let first = part_of(alloc, low, lows)?;
+    let second = part_of(alloc, high, highs)?;
+    Ok((first, second))
 }
 
 /// Both halves of a part by x or by y, where it can be halved and they have fewer steps.
@@ -109,8 +103,10 @@ fn fewer_halves(
     alloc: Global,
     part: &Window,
     across: bool,
-) -> Result<Option<(Window, Window)>, WindowsFault> {
-    if size(&part.core, across) <= 1 {
+) -> Result<Option<(Window, Window)>, WindowsFault>
+    ensures { IfOk result (λ found. IfSome found (λ both. AreHalves part.now both.0 both.1)) }
+{
+    if !is_long(&part.core, across) {
         return Ok(None);
     }
     let (first, second) = halved(alloc, part, across)?;
@@ -121,7 +117,9 @@ fn fewer_halves(
 }
 
 /// Both halves of a part, by its longer side or else by the other one, where they have fewer steps.
-fn better_halves(alloc: Global, part: &Window) -> Result<Option<(Window, Window)>, WindowsFault> {
+fn better_halves(alloc: Global, part: &Window) -> Result<Option<(Window, Window)>, WindowsFault>
+    ensures { IfOk result (λ found. IfSome found (λ both. AreHalves part.now both.0 both.1)) }
+{
     let across = size(&part.core, true) >= size(&part.core, false);
     match fewer_halves(alloc, part, across)? {
         Some(both) => Ok(Some(both)),
@@ -138,7 +136,9 @@ fn is_small(part: &Window, limit: usize) -> bool {
 }
 
 /// A part that one pass has to take as it is.
-fn whole(part: Window) -> Result<Window, WindowsFault> {
+fn whole(part: Window) -> Result<Window, WindowsFault>
+    ensures { IfOk result (λ window. window ≡ part) }
+{
     if !part.is_drawn {
         return Err(WindowsFault::LongStep);
     }
@@ -155,40 +155,77 @@ fn divide(
     limit: usize,
     done: &mut Vec<Window>,
     left: &mut Vec<Window>,
-) -> Result<(), WindowsFault> {
+) -> Result<(), WindowsFault>
+    ensures { OnOk result (IsDivided part done.old.items left.old.items done.new.items left.new.items) }
+{
     if is_small(&part, limit) {
-        done.push(whole(part)?)?;
+        let own = whole(part)?;
+        done.push(own)?;
         return Ok(());
     }
-    match better_halves(alloc, &part)? {
-        Some((first, second)) => {
-            left.push(second)?;
-            left.push(first)?;
-        }
-        None => done.push(whole(part)?)?,
-    }
+    let Some((first, second)) = better_halves(alloc, &part)? else {
+        let own = whole(part)?;
+        done.push(own)?;
+        return Ok(());
+    };
+    left.push(second)?;
+    left.push(first)?;
     Ok(())
 }
 
-/// The rings of features by their layers, as far as they meet a core.
+/// Adds what a feature looks like from within a core, if it counts for a layer.
+fn add_member(
+    alloc: Global,
+    to: &mut Rings,
+    features: &Features,
+    one: &Near,
+    layer: usize,
+    core: &Core,
+) -> Result<(), WindowsFault>
+    ensures { OnOk result (AddsLike (box_of core.now) (rings_for features.now one.now layer) to.old to.new) }
+{
+    if one.layer != layer {
+        return Ok(());
+    }
+    let Some(own) = features.rings_of(one.feature) else {
+        return Ok(());
+    };
+    add_near(alloc, to, own, core)
+}
+
+/// What the features that count for a layer look like from within a core.
+fn layer_of(
+    alloc: Global,
+    features: &Features,
+    members: &[Near],
+    layer: usize,
+    core: &Core,
+) -> Result<Rings, WindowsFault>
+    ensures { IfOk result (λ rings. LookLike (box_of core.now) (layer_rings features.now members.now layer) rings) }
+{
+    let mut rings = Rings::none(alloc);
+    for one in members {
+        add_member(alloc, &mut rings, features, one, layer, core)?;
+    }
+    Ok(rings)
+}
+
+/// The layers of features, as they look from within a core.
 fn layers_of(
     alloc: Global,
     features: &Features,
     members: &[Near],
     count: usize,
     core: &Core,
-) -> Result<Vec<Rings>, WindowsFault> {
+) -> Result<Vec<Rings>, WindowsFault>
+    ensures count { IfOk result (λ list. length list.items ≡ count) }
+    ensures each { IfOk result (λ list. (k : ℕ) → k < count →
+        LookLike (box_of core.now) (layer_rings features.now members.now k) (rings_at k list.items)) }
+{
     let mut list = Vec::new(alloc);
     for layer in 0..count {
-        let mut rings = Rings::none(alloc);
-        for one in members {
-            if one.layer == layer {
-                if let Some(own) = features.rings_of(one.feature) {
-                    add_near(alloc, &mut rings, own, core)?;
-                }
-            }
-        }
-        list.push(rings)?;
+        let own = layer_of(alloc, features, members, layer, core)?;
+        list.push(own)?;
     }
     Ok(list)
 }
@@ -201,12 +238,15 @@ pub fn windows(
     count: usize,
     core: &Core,
     limit: usize,
-) -> Result<Vec<Window>, WindowsFault> {
+) -> Result<Vec<Window>, WindowsFault>
+    ensures { IfOk result (λ list. AreWindows features.now members.now count core.now list.items) }
+{
     let own = layers_of(alloc, features, members, count, core)?;
     let layers = near(alloc, &own, core)?;
     let mut done = Vec::new(alloc);
     let mut left = Vec::new(alloc);
-    left.push(part_of(alloc, *core, layers)?)?;
+    let first = part_of(alloc, *core, layers)?;
+    left.push(first)?;
     for _ in 0..PARTS_MAX {
         let Some(part) = left.pop() else {
             return Ok(done);

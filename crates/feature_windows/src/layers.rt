@@ -1,63 +1,85 @@
 //! Layers of rings, and what is drawn of them within a core.
-ghost use Rattle.std.specs.Prelude.{◌≡◌, map, IfOk, IfSome, All};
+ghost use Rattle.std.specs.Prelude.{◌≡◌, ◌∷◌, [], length, map, IfOk, IfSome, OnOk, All};
 ghost use Rattle.overlay_terms.specs.InputLaws.{IsClosed};
 ghost use Rattle.arrange.specs.Marked.{marked_of};
+ghost use Rattle.near_steps.specs.Cores.{box_of};
 ghost use Rattle.near_steps.specs.Drawn.{HasDrawn};
-ghost use Rattle.feature_windows.specs.Shown.{AreShown, HasLayer};
+ghost use Rattle.feature_windows.specs.Shown.{rings_at, AreShown, HasLayer};
+ghost use Rattle.feature_windows.specs.Layers.{corners_of, AddsLike, HasLayers};
 
-use crate::boxes::{extent, meet};
 use crate::fault::WindowsFault;
-use crate::rings::{Rings, parted};
+use crate::rings::{Rings, is_open, parted};
+use crate::sides::lie_off;
 use arrange::MarkedSeg;
 use block_reading::{Core, FarPoint};
 use near_steps::{Drawing, NearCore, draw_feature, reduced};
 use std::alloc::{AllocError, Global};
 
-/// Adds those of some rings that meet a core; where the core is small, what is left of each for it.
+/// Adds what some rings look like from within a core.
 pub(crate) fn add_near(
     alloc: Global,
     to: &mut Rings,
     rings: &Rings,
     core: &Core,
-) -> Result<(), AllocError> {
-    let near = NearCore::of(core);
+) -> Result<(), WindowsFault>
+    ensures { OnOk result (AddsLike (box_of core.now) rings.now to.old to.new) }
+{
     let (counts, points) = rings.lent();
     let mut rest = points;
     for count in counts {
         let (own, after) = parted(rest, *count);
-        if meet(&extent(own), core) {
-            add_reduced(alloc, to, own, &near)?;
-        }
+        add_ring(alloc, to, own, core)?;
         rest = after;
     }
     Ok(())
 }
 
-/// Adds a ring, or what is left of it for a core.
+/// Adds a ring, unless it lies off the core on one side: then it looks like none if it is closed, and is refused if not.
+fn add_ring(
+    alloc: Global,
+    to: &mut Rings,
+    points: &[FarPoint],
+    core: &Core,
+) -> Result<(), WindowsFault>
+    ensures { OnOk result (AddsLike (box_of core.now) (points.now ∷ []) to.old to.new) }
+{
+    if lie_off(core, points) {
+        if is_open(points) {
+            return Err(WindowsFault::BadRing);
+        }
+        return Ok(());
+    }
+    add_reduced(alloc, to, points, core)?;
+    Ok(())
+}
+
+/// Adds a ring, or of a long one what is left of it for a core.
 fn add_reduced(
     alloc: Global,
     to: &mut Rings,
     points: &[FarPoint],
-    near: &Option<NearCore>,
-) -> Result<(), AllocError> {
+    core: &Core,
+) -> Result<(), AllocError>
+    ensures { OnOk result (AddsLike (box_of core.now) (points.now ∷ []) to.old to.new) }
+{
     if points.len() < 64 {
         return to.add(points);
     }
-    match near {
-        Some(own) => {
-            let less = reduced(alloc, points, own)?;
-            if less.len() < 4 {
-                to.add(points)
-            } else {
-                to.add(&less)
-            }
-        }
-        None => to.add(points),
+    let Some(near) = NearCore::of(core) else {
+        return to.add(points);
+    };
+    let less = reduced(alloc, points, &near)?;
+    if less.len() < 4 {
+        to.add(points)
+    } else {
+        to.add(&less)
     }
 }
 
-/// Those rings of layers that meet a core, and its border as the last layer.
-pub(crate) fn near(alloc: Global, layers: &[Rings], core: &Core) -> Result<Vec<Rings>, AllocError> {
+/// What layers look like from within a core, and its border as the last layer.
+pub(crate) fn near(alloc: Global, layers: &[Rings], core: &Core) -> Result<Vec<Rings>, WindowsFault>
+    ensures { IfOk result (λ list. HasLayers (box_of core.now) (length layers.now) (λ k. rings_at k layers.now) list.items) }
+{
     let mut list = Vec::new(alloc);
     for layer in layers {
         let mut own = Rings::none(alloc);
@@ -69,7 +91,9 @@ pub(crate) fn near(alloc: Global, layers: &[Rings], core: &Core) -> Result<Vec<R
 }
 
 /// The border of a core as a ring.
-fn border(alloc: Global, core: &Core) -> Result<Rings, AllocError> {
+fn border(alloc: Global, core: &Core) -> Result<Rings, AllocError>
+    ensures { IfOk result (λ rings. rings ≡ corners_of (box_of core.now) ∷ []) }
+{
     let corners = [
         FarPoint {
             x: core.low_x,

@@ -1,5 +1,5 @@
 //! Rings in a row.
-ghost use Rattle.std.specs.Prelude.{◌≡◌, ◌≤◌, true, length, take, drop, sum_by, All, IfOk};
+ghost use Rattle.std.specs.Prelude.{◌≡◌, ◌≤◌, ◌++◌, ◌∷◌, [], true, false, length, take, drop, sum_by, All, IfOk, OnOk};
 ghost use Rattle.overlay_terms.specs.Plane.{is_closed};
 ghost use Rattle.overlay_terms.specs.InputLaws.{IsClosed};
 ghost use Rattle.block_reading.specs.Block.{dealt};
@@ -18,13 +18,15 @@ pub struct Rings {
 }
 
 impl Model for Rings {
-    ghost use Rattle.std.specs.Prelude.{List};
+    ghost use Rattle.std.specs.Prelude.{◌≡◌, List, length, sum_by};
     ghost use Rattle.overlay_terms.specs.Plane.{WholePoint};
     ghost use Rattle.block_reading.specs.Block.{dealt};
 
     ghost Value = { List (List WholePoint) };
 
     ghost view = { λ r. dealt r.counts.items r.points.items };
+
+    ghost invariant = { λ r. sum_by (λ n. n) r.counts.items ≡ length r.points.items };
 }
 
 /// The first so many points, or all where there are fewer, and those after them.
@@ -62,9 +64,9 @@ fn as_far(p: FarPoint) -> FarPt
     FarPt::new(p.x, p.y)
 }
 
-/// Whether the last of four points or more is the first.
+/// Whether the last of some points is the first.
 fn is_closed(points: &[FarPoint]) -> bool
-    requires { 4 ≤ length points.now }
+    requires { 1 ≤ length points.now }
     ensures { result ≡ is_closed points.now }
 {
     if as_far(points[0]) == as_far(points[points.len() - 1]) {
@@ -72,6 +74,16 @@ fn is_closed(points: &[FarPoint]) -> bool
     } else {
         false
     }
+}
+
+/// Whether a line of points does not end where it begins.
+pub(crate) fn is_open(points: &[FarPoint]) -> bool
+    ensures { result ≡ false → is_closed points.now ≡ true }
+{
+    if points.is_empty() {
+        return false;
+    }
+    !is_closed(points)
 }
 
 /// Whether a ring is closed, and has four points or more.
@@ -86,7 +98,9 @@ fn is_ring(points: &[FarPoint]) -> bool
 
 impl Rings {
     /// No rings.
-    pub(crate) fn none(alloc: Global) -> Rings {
+    pub(crate) fn none(alloc: Global) -> Rings
+        ensures { result ≡ [] }
+    {
         Rings {
             counts: Vec::new(alloc),
             points: Vec::new(alloc),
@@ -108,19 +122,28 @@ impl Rings {
     ) -> Result<Rings, AllocError>
         ensures { IfOk result (λ rings. rings ≡ dealt counts.now points.now) }
     {
-        let counts = counts.to_vec(alloc)?;
-        let points = points.to_vec(alloc)?;
-        Ok(Rings { counts, points })
+        let mut rings = Rings::none(alloc);
+        let mut rest = points;
+        for count in counts {
+            let (own, after) = parted(rest, *count);
+            rings.add(own)?;
+            rest = after;
+        }
+        Ok(rings)
     }
 
     /// Adds a ring.
-    pub(crate) fn add(&mut self, points: &[FarPoint]) -> Result<(), AllocError> {
-        let count = match u32::try_from(points.len()) {
-            Ok(own) => own,
-            Err(_) => return Err(AllocError),
+    pub(crate) fn add(&mut self, points: &[FarPoint]) -> Result<(), AllocError>
+        ensures { OnOk result (self.new ≡ self.old ++ points.now ∷ []) }
+    {
+        let Ok(count) = u32::try_from(points.len()) else {
+            return Err(AllocError);
         };
         self.counts.push(count)?;
-        self.points.extend_from_slice(points)?;
+        if let Err(e) = self.points.extend_from_slice(points) {
+            let _ = self.counts.pop();
+            return Err(e);
+        }
         Ok(())
     }
 
