@@ -354,6 +354,9 @@ def test_rules_hold_where_two_change_at_once(words: str, tmp_path: Path) -> None
     assert sum(isinstance(one, Breaks) for one in told) == 2
     refresh(register, program)
     assert listed(register.engine, " WHERE rule = ?", rule.number) == []
+    assert register.engine.ask("SELECT * FROM overlay_violation_map") == []
+    assert register.engine.ask("SELECT type, srid FROM geometry_columns WHERE f_table_name = 'overlay_violation_map'") \
+        == [("MULTIPOLYGON", 25832)]
     ((who, change),) = register.engine.ask("SELECT who, change FROM overlay_log WHERE what = 'insert'")
     assert (who.startswith("anna by land/"), change) == (True, number)
     (fid,) = [row[0] for row in register.engine.ask("SELECT fid FROM parcels")]

@@ -2,7 +2,10 @@
 
 from __future__ import annotations
 
+import os
 import random
+import subprocess
+import sys
 from collections.abc import Iterable
 from fractions import Fraction
 from itertools import combinations, product
@@ -10,6 +13,7 @@ from pathlib import Path
 from typing import Any
 
 import pytest
+from osgeo import gdal
 
 from overlayd.register.auditing import audit
 from overlayd.register.model import Must, Refused, Rule
@@ -17,6 +21,7 @@ from overlayd.register.ruling import accept, add_rule, drop_rule
 from overlayd.register.violation_rows import Listed, listed
 
 from . import register_works as works, slabs
+from .common import HAS_QGIS, SECONDS
 from .register_works import GRID, Land, land
 
 pytestmark = pytest.mark.features
@@ -173,3 +178,45 @@ def test_rules_that_are_none_are_refused_by_name(tmp_path: Path) -> None:
         drop_rule(own.register, one.number)
     assert own.ask("SELECT count(*) FROM overlay_violation") == [(0,)]
     own.register.remove("parcels")
+
+
+def test_violations_are_a_layer_for_gdal(tmp_path: Path) -> None:
+    """With their outlines and areas, in the system of the layers."""
+    own, rules = ruled(tmp_path / "land.gpkg", 3)
+    accept(own.register, found(own, rules[0])[0].number, "anna", "an old fence")
+    wanted = {one.number: one.violation for rule in rules for one in found(own, rule) if one.violation.outline}
+
+    def opened() -> None:
+        store = gdal.OpenEx(str(own.path), gdal.OF_VECTOR | gdal.OF_UPDATE)
+        layer = store.GetLayerByName("overlay_violation_map")
+        assert layer.GetSpatialRef().GetAuthorityCode(None) == "25832"
+        features = {one.GetFID(): one for one in layer}
+        assert features.keys() == wanted.keys() and len(wanted) > 9
+        for number, one in wanted.items():
+            shape = features[number].GetGeometryRef()
+            assert (shape.GetGeometryName(), features[number]["a"]) == ("MULTIPOLYGON", one.a)
+            assert shape.Area() == pytest.approx(one.area, abs=1e-6) == features[number]["area"]
+
+    assert works.warnings_of(opened) == []
+    own.refresh(say=lambda text: pytest.fail(text))
+
+
+IN_QGIS = """import sys
+from qgis.core import QgsApplication, QgsVectorLayer
+application = QgsApplication([], False)
+application.initQgis()
+layer = QgsVectorLayer(sys.argv[1] + "|layername=overlay_violation_map", "v", "ogr")
+for one in layer.renderer().rootRule().children():
+    print(one.label(), one.symbol().color().name(), len([*layer.getFeatures(one.filterExpression())]), sep=":")
+"""
+
+
+@pytest.mark.skipif(not HAS_QGIS, reason="no QGIS: apt-get install python3-qgis")
+def test_qgis_opens_violations_in_their_colours(tmp_path: Path) -> None:
+    own, rules = ruled(tmp_path / "land.gpkg", 3)
+    accept(own.register, found(own, rules[0])[0].number, "anna", "an old fence")
+    done = subprocess.run([sys.executable, "-c", IN_QGIS, str(own.path)], capture_output=True, text=True, check=True,
+                          timeout=SECONDS, env={**os.environ, "QT_QPA_PLATFORM": "offscreen"})
+    counts = [len(found(own, rule)) for rule in rules]
+    assert done.stdout.split("\n")[:3] == [
+        "accepted:#969696:1", f"gaps:#f0a020:{counts[3]}", f"overlaps, or not covered:#d03020:{sum(counts[:3]) - 1}"]

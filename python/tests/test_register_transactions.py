@@ -312,12 +312,13 @@ def test_tables_of_the_version_before_get_rules_and_their_triggers(own: Land) ->
         drop_rule(own.register, rule.number)
     for text in ("DROP TABLE overlay_rule", "DROP TABLE overlay_violation", "DROP INDEX overlay_log_change",
                  "DROP INDEX overlay_log_fid", "UPDATE overlay_state SET form = 1",
-                 "DROP TRIGGER overlay_parcels_update",
+                 "ALTER TABLE overlay_layer DROP COLUMN since", "DROP TRIGGER overlay_parcels_update",
                  "DELETE FROM gpkg_contents WHERE table_name IN ('overlay_rule', 'overlay_violation')"):
         engine.ask(text)
-    with pytest.raises(Refused, match="tables of version 1, and not 2"):
+    with pytest.raises(Refused, match="tables of version 1, and not 3"):
         own.register.need()
     assert own.register.upgrade() and not own.register.upgrade()
+    assert own.ask("SELECT since FROM overlay_layer") == own.ask("SELECT min(at) FROM overlay_log GROUP BY layer")
     add_rule(own.register, Must.NOT_OVERLAP, "parcels", None, own.program)
     with pytest.raises(Breaks):
         told(own, put(2, box(8, 0, 20, 10)))

@@ -24,6 +24,8 @@ from ..register.beginning import begun, engine_of, idents_of, opened, standing
 from ..register.filling import keep as begin_to_keep
 from ..register.lasting import lasting
 from ..register.model import Kept, Kind, Must, Refused, factor_of
+from ..register.package import GeoPackage
+from ..register.past import Past, moment, purge as purged
 from ..register.postgis import PREFIX, PostGis, faults
 from ..register.postgis_texts import RIGHTS
 from ..register.refreshing import refresh as refreshed
@@ -246,6 +248,34 @@ def audit(context: click.Context, file: str, part: int, program: str | None) -> 
     if found and found[0].pending:
         say(f"{found[0].pending} changes are pending: `overlay register refresh` first")
     context.exit(0 if all(one.is_right() for one in found) else 1)
+
+
+@command.command(params=[
+    FILE, argument("date"), argument("target"), argument("layers", metavar="[LAYER...]", nargs=-1)])
+def past(file: str, date: str, target: str, layers: tuple[str, ...]) -> None:
+    """Writes layers as they were at a time (2026-12-01, or 2026-12-01T10:00:00+01:00) into a new GeoPackage."""
+    register = opened(file)
+    with register.engine.reading():
+        tables = [Past(register.engine, register.layer(name), moment(date)) for name in layers or register.layers()]
+        if Path(target).exists():
+            raise Refused(f"{target} is there already")
+        for one in tables:
+            click.echo(f"{one.layer.name}: {sources.write(file, one.layer.name, one.all(), target)} features")
+
+
+@command.command(params=[FILE, argument("date")])
+def purge(file: str, date: str) -> None:
+    """Takes away what the log has from before a time: neither the state as of it nor undo goes back there."""
+    click.echo(f"{purged(opened(file), moment(date))} rows")
+
+
+@command.command(params=[FILE, argument("target")])
+def backup(file: str, target: str) -> None:
+    """Copies a GeoPackage as it is now into another file, while others edit it."""
+    register = opened(file)
+    if not isinstance(register.engine, GeoPackage):
+        raise Refused(f"pg_dump -Fc -f {target} copies a database: layers and register are one state in it")
+    register.engine.backup(target)
 
 
 @command.command(params=[FILE, argument("role"), argument("what", click.Choice([*RIGHTS]))])

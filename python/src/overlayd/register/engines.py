@@ -118,6 +118,9 @@ class Engine(Protocol):
     def may_write(self, layer: Layer) -> bool:
         """Whether who asks may change a layer."""
 
+    def show_violations(self, layer: Layer) -> None:
+        """Makes the layer in which violations are looked at, in the system of a layer, where it is not there."""
+
     def features(self, layer: Layer, where: str = "") -> Found:
         """Features of a layer, all or some, by their keys."""
 

@@ -7,7 +7,7 @@ import re
 from dataclasses import dataclass
 from fractions import Fraction
 
-FORM = 2  # the version of the tables
+FORM = 3  # the version of the tables
 NAME = re.compile(r"[A-Za-z][A-Za-z0-9_]{0,47}")
 WORD = re.compile(r'"[^"]*"|[^\W\d]\w*|\S')
 MARKS = {"(", ")", "&", "|", "-", "^"}

@@ -5,13 +5,14 @@ from __future__ import annotations
 import contextlib
 import os
 import sqlite3
+import struct
 import time
 from collections.abc import Callable, Iterable, Iterator, Sequence
 from pathlib import Path
 from typing import Any
 
-from . import statements
-from .blobs import blob_of, bounds, box_of, fitted, well_known
+from . import statements, violation_map as shown
+from .blobs import GATHERED, blob_of, bounds, box_of, fitted, well_known
 from .engines import Found, Row
 from .model import Layer, Refused
 from .package_triggers import near, quoted, triggers
@@ -172,6 +173,21 @@ class GeoPackage:
     def may_write(self, layer: Layer) -> bool:
         return True
 
+    def show_violations(self, layer: Layer) -> None:
+        if self.ask("SELECT 1 FROM sqlite_master WHERE name = ?", shown.NAME):
+            return
+        ((system,),) = self.ask("SELECT srs_id FROM gpkg_geometry_columns WHERE table_name = ?", layer.name)
+        shape = shown.BLOB.format(system=struct.pack("<i", system).hex(), gathered=GATHERED.hex())
+        self.create(shown.FIRST, shown.TYPES, is_listed=False)
+        rows = shown.ROWS.format(shape=shape)
+        self.ask(f"CREATE VIEW {shown.NAME} AS SELECT * FROM {shown.FIRST} UNION ALL {rows}")
+        self.ask("INSERT INTO gpkg_contents (table_name, data_type, identifier, srs_id) VALUES (?, 'features', ?, ?)",
+                 shown.NAME, shown.NAME, system)
+        self.ask("INSERT INTO gpkg_geometry_columns VALUES (?, 'geom', 'MULTIPOLYGON', ?, 0, 0)", shown.NAME, system)
+        self.ask(shown.STYLES)
+        self._tell_of("layer_styles", is_listed=True)
+        self.ask(shown.ADD_STYLE, shown.NAME, shown.NAME, shown.style())
+
     def features(self, layer: Layer, where: str = "") -> Found:
         key, geom = quoted(layer.key), quoted(layer.geom)
         ident = "NULL" if layer.ident is None else f"CAST(t.{quoted(layer.ident)} AS TEXT)"
@@ -240,6 +256,18 @@ class GeoPackage:
     def settle(self) -> None:
         """Puts what is in the log into the file, so that a file that takes its place finds none of it."""
         self.ask("PRAGMA wal_checkpoint(TRUNCATE)")
+
+    def backup(self, target: str) -> None:
+        """Copies the file as it is now, while others write. The copy has its name when it is whole."""
+        if os.path.exists(target):
+            raise Refused(f"{target} is there already")
+        with contextlib.closing(sqlite3.connect(target + ".part", isolation_level=None)) as copy:
+            self.db.backup(copy)
+            copy.execute("PRAGMA journal_mode = DELETE")  # so that one file has all
+            found = copy.execute("PRAGMA quick_check(1)").fetchall()
+        if found != [("ok",)]:
+            raise Refused(f"{self.path} is damaged: {found[0][0]}")
+        os.replace(target + ".part", target)
 
     def close(self) -> None:
         self.db.close()

@@ -11,6 +11,7 @@ from typing import Any
 
 from . import postgis_texts as texts
 from . import statements
+from . import violation_map as shown
 from .blobs import fitted
 from .engines import Found, Row
 from .model import Layer, Refused
@@ -162,6 +163,12 @@ class PostGis:
 
     def may_write(self, layer: Layer) -> bool:
         return bool(self.ask("SELECT has_table_privilege(?, 'UPDATE')", place_of(layer.name))[0][0])
+
+    def show_violations(self, layer: Layer) -> None:
+        if not self.ask("SELECT 1 WHERE to_regclass(?) IS NOT NULL", f"overlay.{shown.NAME}"):
+            ((_, system),) = self.ask(texts.KIND, place_of(layer.name), layer.geom)
+            shape = shown.GEOMETRY.format(system=int(system or 0), postgis=quoted(self.postgis))
+            self.ask(f"CREATE VIEW overlay.{shown.NAME} AS {shown.ROWS.format(shape=shape)}")
 
     def grant(self, role: str, what: str, layers: Iterable[Layer]) -> None:
         """Gives a role of the database what one who reads, edits or refreshes needs, of the tables that there are."""

@@ -3,6 +3,7 @@
 from __future__ import annotations
 
 import contextlib
+import datetime
 from collections.abc import Callable, Iterator
 from fractions import Fraction
 
@@ -11,6 +12,11 @@ from .engines import Engine, filled
 from .model import FORM, Kept, Kind, Layer, Must, Refused, Rule, State
 
 Say = Callable[[str], None]
+
+
+def now() -> str:
+    """The time as the log has it."""
+    return datetime.datetime.now(datetime.timezone.utc).isoformat(timespec="milliseconds").replace("+00:00", "Z")
 
 
 def in_silence(text: str) -> None:
@@ -72,7 +78,7 @@ class Register:
             if name in self.layers():
                 raise Refused(f"{name} is a layer of the register already")
             layer = self.engine.layer(name, ident)
-            self.engine.many(statements.ADD_LAYER, [(layer.name, layer.geom, layer.key, layer.ident)])
+            self.engine.many(statements.ADD_LAYER, [(layer.name, layer.geom, layer.key, layer.ident, now())])
             self.engine.make_index(layer)
             self.engine.arm(layer)
             self.engine.many(statements.ADD_PENDING, [(name, fid) for fid in self.engine.features(layer).fids])
@@ -121,14 +127,18 @@ class Register:
         """Brings tables of an earlier version over; whether there was something to do."""
         if not self.engine.is_register():
             raise Refused("no register here: `overlay register init` or `adopt` makes one")
-        if self.state().form >= FORM:
+        form = self.state().form
+        if form >= FORM:
             self.need()
             return False
         with self.own_change():
-            for name in ("overlay_rule", "overlay_violation"):
-                self.engine.create(name, statements.LISTED[name], is_listed=True)
-            for text in statements.INDEXES_OF_TABLES:
-                self.engine.ask(text)
+            if form < 2:
+                for name in ("overlay_rule", "overlay_violation"):
+                    self.engine.create(name, statements.LISTED[name], is_listed=True)
+                for text in statements.INDEXES_OF_TABLES:
+                    self.engine.ask(text)
+            self.engine.ask("ALTER TABLE overlay_layer ADD COLUMN since TEXT")
+            self.engine.ask(statements.BEGIN_SINCE, now())
             self.engine.make_functions()
             for layer in self.layers().values():
                 self.engine.arm(layer)

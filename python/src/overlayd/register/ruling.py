@@ -48,9 +48,10 @@ def added(register: Register, rule: Rule, program: Program) -> Rule | None:
     if pending:
         return None
     found = violations(rule, sides, program, is_whole=True)
-    with engine.writing():
+    with register.own_change():
         if register.state().version != version:
             return None
+        engine.show_violations(register.layer(rule.a))
         engine.ask(statements.ADD_RULE, rule.must.value, rule.a, rule.b, rule.least, rule.reach)
         made = register.rules()[-1]
         replaced(engine, made, [], found)

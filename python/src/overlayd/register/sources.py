@@ -1,11 +1,14 @@
-"""Layers of other files that go into a GeoPackage, by GDAL."""
+"""Layers of other files that go into a GeoPackage, and features that go into another one, by GDAL."""
 
 from __future__ import annotations
 
+import json
+from collections.abc import Iterable
 from pathlib import Path
 
 from ..files.gdal_writing import modules
 from .model import Refused
+from .tables import Item
 
 
 def layers_of(source: str) -> list[str]:
@@ -37,3 +40,26 @@ def copy(source: str, target: str, names: list[str] | None = None, called: str |
             raise Refused(f"{source}: {fault}") from None
         made.append(own)
     return made
+
+
+def write(file: str, name: str, items: Iterable[Item], target: str) -> int:
+    """Writes features of a layer of a database into a GeoPackage, with the layer's columns; how many they are."""
+    gdal, ogr = modules()
+    options = gdal.VectorTranslateOptions(format="GPKG", accessMode="append" if Path(target).exists() else None,
+                                          layers=[name], where="1 = 0")
+    try:
+        store = gdal.VectorTranslate(target, file, options=options)
+    except RuntimeError as fault:
+        raise Refused(f"{target}: {fault}") from None
+    layer = store.GetLayerByName(name)
+    layer.StartTransaction()
+    for item in items:
+        feature = ogr.Feature(layer.GetLayerDefn())
+        feature.SetFID(item.fid)
+        feature.SetGeometry(ogr.CreateGeometryFromWkb(item.shape) if item.shape else None)
+        for column, value in item.values.items():
+            if value is not None and feature.GetFieldIndex(column) >= 0:
+                feature.SetField(column, value if isinstance(value, (int, float, str)) else json.dumps(value))
+        layer.CreateFeature(feature)
+    layer.CommitTransaction()
+    return int(layer.GetFeatureCount())

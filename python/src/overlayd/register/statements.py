@@ -21,7 +21,7 @@ LISTED = {
 OWN = {
     "overlay_state": "one INTEGER PRIMARY KEY CHECK (one = 1), form INTEGER NOT NULL, version BIGINT NOT NULL, at TEXT,"
                      " schema_was BIGINT NOT NULL, factor TEXT NOT NULL",
-    "overlay_layer": "name TEXT PRIMARY KEY, geom TEXT NOT NULL, key TEXT NOT NULL, ident TEXT",
+    "overlay_layer": "name TEXT PRIMARY KEY, geom TEXT NOT NULL, key TEXT NOT NULL, ident TEXT, since TEXT",
 }
 PAIRS = ("id KEY, a BIGINT NOT NULL, b BIGINT NOT NULL, a_id TEXT, b_id TEXT, relation TEXT NOT NULL,"
          " area DOUBLE PRECISION, bound DOUBLE PRECISION")
@@ -39,7 +39,7 @@ STATE = "SELECT form, version, at, schema_was, factor FROM overlay_state"
 SCHEMA_IS = "UPDATE overlay_state SET schema_was = ?"
 NEXT = "UPDATE overlay_state SET version = version + 1, at = ?"
 LAYERS = "SELECT name, geom, key, ident FROM overlay_layer ORDER BY name"
-ADD_LAYER = "INSERT INTO overlay_layer (name, geom, key, ident) VALUES (?, ?, ?, ?)"
+ADD_LAYER = "INSERT INTO overlay_layer (name, geom, key, ident, since) VALUES (?, ?, ?, ?, ?)"
 SET_FORM = "UPDATE overlay_state SET form = ?"
 SET_LAYER = "UPDATE overlay_layer SET geom = ?, key = ? WHERE name = ?"
 DROP_LAYER = "DELETE FROM overlay_layer WHERE name = ?"
@@ -54,6 +54,17 @@ LOG_OF_CHANGE = ("SELECT id, layer, fid, what, geom, old FROM overlay_log WHERE 
                  " OR (change IS NULL AND id = ?) ORDER BY id DESC")
 LOG_SINCE = ("SELECT coalesce(change, id), what, geom, old FROM overlay_log WHERE layer = ? AND fid = ? AND id > ?"
              " AND coalesce(change, id) <> ? ORDER BY id LIMIT 1")
+SINCE = "SELECT since FROM overlay_layer WHERE name = ?"
+SET_SINCE = "UPDATE overlay_layer SET since = ? WHERE since < ?"
+BEGIN_SINCE = ("UPDATE overlay_layer SET since ="
+               " coalesce((SELECT min(l.at) FROM overlay_log l WHERE l.layer = overlay_layer.name), ?)")
+LOG_BEFORE = "SELECT count(*) FROM overlay_log WHERE at < ?"
+PURGE = "DELETE FROM overlay_log WHERE at < ?"
+FIRST_AFTER = "SELECT coalesce(min(id), 9223372036854775807) FROM overlay_log WHERE at > ?"
+MOVED = "SELECT id, what FROM overlay_log WHERE layer = ? AND id >= ? AND what LIKE 'moved to %' ORDER BY id DESC"
+WAS = ("SELECT id, fid, what, geom, old FROM overlay_log WHERE id IN (SELECT min(id) FROM overlay_log WHERE layer = ?"
+       " AND id >= ? AND fid > ? GROUP BY fid ORDER BY fid LIMIT ?) ORDER BY fid")
+UNCHANGED = "NOT EXISTS (SELECT 1 FROM overlay_log l WHERE l.layer = ? AND l.fid = t.{key} AND l.id >= ?)"
 PENDING = "SELECT id, layer, fid FROM overlay_pending ORDER BY id"
 PENDING_OF = "SELECT layer, count(*) FROM overlay_pending GROUP BY layer ORDER BY layer"
 ADD_PENDING = "INSERT INTO overlay_pending (layer, fid) VALUES (?, ?)"

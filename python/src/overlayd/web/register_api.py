@@ -11,12 +11,13 @@ from flask import Response, g, request
 from ..grid import scale as scales
 from ..register import statements
 from ..register.model import Refused
+from ..register.past import moment
 from ..register.registers import Register
 from .map_scale import MapScale
-from .ogc_pages import CRS, ITEM_WORDS, OgcPages
+from .ogc_pages import CRS, ITEM_WORDS, OgcPages, time_of
 from .opened_registers import OpenedRegisters
-from .pages import GEOJSON, POINT, Problem, link, page, sent, whole
-from .register_items import Collection, RowItem, box_of, collections_of
+from .pages import GEOJSON, POINT, Problem, Word, link, page, sent, whole
+from .register_items import Collection, RowItem, box_of, collections_of, of_layer
 from .register_places import place_of
 from .systems import Placed, Systems
 
@@ -24,7 +25,16 @@ ROWS = "/collections/<collection:name>"
 ROW = f"{ROWS}/items/<number:identity>"
 LIMIT, HISTORY_MOST = ITEM_WORDS[1], 1000
 AFTER = whole("after", "go on after the item of this number", 0, 0, 2**63 - 1, {"default": 0})
-PAGE_WORDS = (ITEM_WORDS[0], LIMIT, AFTER, *(one for one in ITEM_WORDS[3:] if one.name != "revision"))
+
+
+def end_of(given: str) -> str | None:
+    """A time of RFC 3339, or the end of two, as the log has it; None of an open end, and of none."""
+    last = time_of(given).rpartition("/")[2]
+    return moment(last) if last not in ("", "..") else None
+
+
+AT = Word("datetime", "a layer as it was at a time, or at the end of two with / between", {"type": "string"}, end_of)
+PAGE_WORDS = (ITEM_WORDS[0], LIMIT, AFTER, AT, *ITEM_WORDS[4:6])
 DIGITS = 9
 EDITING = tuple("http://www.opengis.net/spec/ogcapi-features-4/1.0/conf/" + name for name in (
     "create-replace-delete", "update", "optimistic-locking-etags", "features"))
@@ -88,7 +98,7 @@ class RegisterApi(OgcPages):
         asked = self._asked(limit=limit, offset=0, **words)
         box = self._searched(words["bbox"], words["bbox_crs"])
         with self.registers.reading() as register:
-            own, found = known(register, name), list[RowItem]()
+            own, found = known(register, name, words["datetime"]), list[RowItem]()
             while len(found) <= limit:
                 rows = own.page(after, limit + 1, box)
                 found += [one for one in rows if asked.meets is None or (one.geometry and asked.meets(one))]
@@ -127,10 +137,10 @@ class RegisterApi(OgcPages):
         near = boxes[0] if is_own else self.systems.around(boxes[0])
         return None if near is None else tuple(map(float, near))
 
-    @page("GET", ROW, "getFeature", "an item", "rowItem", CRS, kind=GEOJSON, slow=True)
-    def item(self, name: str, identity: str, crs: str | None) -> Response:
+    @page("GET", ROW, "getFeature", "an item", "rowItem", CRS, AT, kind=GEOJSON, slow=True)
+    def item(self, name: str, identity: str, crs: str | None, datetime: str | None) -> Response:
         with self.registers.reading() as register:
-            own = known(register, name)
+            own = known(register, name, datetime)
             found = [one for one in own.page(int(identity) - 1, 1, None) if one.number == int(identity)]
         if not found:
             raise Problem(404, f"{name} has no item {identity}")
@@ -171,12 +181,19 @@ class RegisterApi(OgcPages):
             {"id": row.fid, "place": place, "properties": dict(row.values)} for row, place in found]})
 
 
-def known(register: Register, name: str) -> Collection:
-    """A collection by its name."""
+def known(register: Register, name: str, at: str | None = None) -> Collection:
+    """A collection by its name; a layer also as it was."""
     found = collections_of(register).get(name)
     if found is None:
         raise Problem(404, f"there is no collection {name}")
-    return found
+    if at is None:
+        return found
+    if found.layer is None:
+        raise Problem(400, f"datetime: {name} is as it is now; layers have a past")
+    try:
+        return of_layer(register, found.layer, at)
+    except Refused as fault:
+        raise Problem(400, f"datetime: {fault}") from None
 
 
 def layer(register: Register, name: str) -> str:

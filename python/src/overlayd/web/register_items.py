@@ -13,6 +13,7 @@ from ..geometry.plane import Box, homogeneous
 from ..register import statements
 from ..register.geojson import geometry_of
 from ..register.model import Kept, Kind, Rule
+from ..register.past import Past
 from ..register.registers import Register
 from ..register.tables import Item as Row, Table, plain
 from ..register.violation_rows import listed
@@ -75,9 +76,10 @@ def collections_of(register: Register) -> dict[str, Collection]:
     return {one.name: one for one in found}
 
 
-def of_layer(register: Register, name: str) -> Collection:
-    """A layer."""
-    table = Table(register.engine, register.layer(name))
+def of_layer(register: Register, name: str, at: str | None = None) -> Collection:
+    """A layer, as it is or as it was at a time of the log."""
+    layer = register.layer(name)
+    table = Table(register.engine, layer) if at is None else Past(register.engine, layer, at)
     return Collection(name, "features of a layer", name, lambda after, limit, box: [
         *map(of_row, table.page(after, limit, box))])
 
