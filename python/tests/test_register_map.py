@@ -2,6 +2,7 @@
 
 from __future__ import annotations
 
+from pathlib import Path
 from typing import Any
 
 import pytest
@@ -11,12 +12,14 @@ from overlayd.register.ruling import add_rule
 from overlayd.web import register_map
 
 from . import register_works as works
+from . import test_register_postgis as postgis
 from .common import TOP
 from .test_register_front import Place, ask, client_of, feature, place
+from .test_register_postgis import server, words
 from .test_register_transactions import box, parcels
 from .test_vector_tiles import read
 
-__all__ = ["place"]
+__all__ = ["place", "server", "words"]
 pytestmark = pytest.mark.features
 E, N = works.EAST, works.NORTH
 
@@ -73,9 +76,9 @@ def test_violations_are_listed_by_area_rule_box_and_acceptance(place: Place) -> 
     own.refresh()
     all_of = client.get("/violations")
     assert [one["area"] for one in rows(all_of)] == pytest.approx([20, 10, 5]) and all_of["count"] == 3
-    for words, wanted in (("least=6", [20, 10]), ("limit=1", [20]), ("rule=1", [20, 5]), ("rule=3", [10]), (
+    for asked, wanted in (("least=6", [20, 10]), ("limit=1", [20]), ("rule=1", [20, 5]), ("rule=3", [10]), (
             f"bbox={E},{N},{E + 15},{N + 9}", [20]), (f"bbox={E + 15},{N},{E + 40},{N + 9}&outlines=1", [5])):
-        assert [one["area"] for one in rows(client.get(f"/violations?{words}"))] == pytest.approx(wanted), words
+        assert [one["area"] for one in rows(client.get(f"/violations?{asked}"))] == pytest.approx(wanted), asked
     (one,) = rows(client.get("/violations?least=15&outlines=1"))
     assert one["outline"]["type"] == "Polygon" and (one["a_id"], one["b_id"]) == ("p1", "p2")
     client.change(f"/violations/{one['id']}/accept", "POST", {"why": "<b>a wall"})
@@ -162,3 +165,22 @@ def test_the_page_and_its_files_are_sent_with_a_policy(place: Place) -> None:
     for path in (TOP / "python/src/overlayd/web/page").glob("*.js"):
         assert "innerHTML" not in path.read_text(), path
         assert place[1].ask(f"/{path.name}").status == 200
+
+
+@pytest.mark.skipif(not postgis.IS_THERE, reason="no PostGIS, or no python3-psycopg2")
+def test_postgis_answers_as_a_geopackage_does(words: str, tmp_path: Path) -> None:
+    places = (postgis.land(words, tmp_path, 3), works.land(tmp_path / "own.gpkg", 3))
+    for own in places:
+        add_rule(own.register, Must.NOT_OVERLAP, "parcels", None, own.program)
+    at = f"{E * 2**5 // 512}/{-(N + 4) * 2**5 // 512}"
+    x, y = (axis / works.GRID for axis in works.features_in(places[1].path, "parcels")[1][0][0])
+    paths = ("/collections/parcels/shade", "/find?text=p", f"/collections/parcels/corner?x={x}&y={y}")
+    seen = []
+    for client in (client_of(own.path) for own in places):
+        found = client.get("/violations?outlines=1")
+        broken = [(one["a_id"], one["b_id"], one["area"], one["outline"]) for one in rows(found)]
+        tiles = [client.ask(f"/tiles/{name}/5/{at}.mvt").value for name in ("parcels", "zones")]
+        pairs = client.get("/collections/parcels/items/2/results")["tables"]
+        layers = [(one["name"], one["count"], one["first"]) for one in client.get("/map")["layers"]]
+        seen.append((found["count"], broken, tiles, pairs, layers, *map(client.get, paths)))
+    assert seen[0] == seen[1] and seen[0][0] > 3 and all(seen[0][2]) and len(seen[0][-1]["features"]) == 1

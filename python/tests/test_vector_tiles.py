@@ -8,12 +8,11 @@ from typing import Any
 import pytest
 from osgeo import gdal, ogr
 
-from overlayd.web.vector_tiles import EXTENT, square, tile
+from overlayd.web.vector_tiles import COARSE, EXTENT, square, tile
 
 gdal.UseExceptions()
 ogr.UseExceptions()
 BOX = square(2, 3750, -42188)  # 128 units wide
-SCALE = EXTENT / (BOX.right - BOX.left)
 RING = "(10 10, 10 60, 60 60, 60 10, 10 10)"
 SHAPES = {
     "square": f"POLYGON ({RING})",
@@ -31,9 +30,10 @@ def moved(text: str) -> Any:
     return placed(text, lambda x, y: (x + BOX.left, y + BOX.low))
 
 
-def rounded(text: str) -> Any:
+def rounded(text: str, extent: int = EXTENT) -> Any:
     """A shape in the numbers of the tile, each corner rounded by itself."""
-    found = placed(text, lambda x, y: (round(x * SCALE), EXTENT - round(EXTENT - y * SCALE)))
+    scale = extent / (BOX.right - BOX.left)
+    found = placed(text, lambda x, y: (round(x * scale), extent - round(extent - y * scale)))
     found.FlattenTo2D()
     return found
 
@@ -66,11 +66,12 @@ def read(body: bytes) -> list[tuple[int, str | None, Any]]:
 
 @pytest.mark.parametrize("name", SHAPES)
 @pytest.mark.parametrize("order", [ogr.wkbNDR, ogr.wkbXDR])
-def test_a_tile_has_shapes_as_they_are_but_for_rounding(name: str, order: int) -> None:
+@pytest.mark.parametrize("extent", [EXTENT, COARSE])
+def test_a_tile_has_shapes_as_they_are_but_for_rounding(name: str, order: int, extent: int) -> None:
     ((number, word, found),) = read(tile("parcels", [2**40 + 1], [bytes(moved(SHAPES[name]).ExportToWkb(order))],
-                                         [name], BOX))
+                                         [name], BOX, extent))
     assert (number, word) == (2**40 + 1, name)
-    wanted = rounded(SHAPES[name])
+    wanted = rounded(SHAPES[name], extent)
     if name == "far":  # cut off out of sight
         frame = ogr.CreateGeometryFromWkt("POLYGON ((-9999 -9999, 9999 -9999, 9999 9999, -9999 9999, -9999 -9999))")
         found, wanted = found.Intersection(frame), wanted.Intersection(frame)

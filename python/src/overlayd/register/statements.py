@@ -31,7 +31,8 @@ INDEXES_OF_TABLES = (
     "CREATE INDEX overlay_log_fid ON overlay_log (layer, fid)",
     "CREATE INDEX overlay_violation_a ON overlay_violation (rule, a)",
     "CREATE INDEX overlay_violation_b ON overlay_violation (rule, b)",
-    "CREATE INDEX overlay_violation_x ON overlay_violation (rule, minx)")
+    "CREATE INDEX overlay_violation_x ON overlay_violation (rule, minx)",
+    "CREATE INDEX overlay_violation_width ON overlay_violation (rule, width)")
 INDEXES = {PAIRS: ("a, b", "b"), CELLS: ("i, j",)}  # the first of each is unique
 
 BEGIN_STATE = "INSERT INTO overlay_state (one, form, version, at, schema_was, factor) VALUES (1, ?, 0, NULL, 0, ?)"

@@ -23,14 +23,14 @@ from ..register.tables import Table
 from .pages import BOX, POINT, Problem, Word, numbers_of, page, sent, text, whole
 from .register_api import AFTER, ROW, ROWS, RegisterApi, layer
 from .register_corners import with_corner
-from .vector_tiles import square, tile
+from .vector_tiles import COARSE, EXTENT, square, tile
 from .views import Busy
 
 TILE = "application/vnd.mapbox-vector-tile"
 FEATURES_MOST, BYTES_MOST = 40_000, 1 << 25  # of a tile
 ZOOM_LEAST, ZOOM_MOST = -32, 32
 PIXELS = 6  # a feature's mean width on the screen from which on a layer is drawn
-NAMED = 3  # zooms after the first one from which on a tile has names
+NAMED, FINE = 3, 2  # zooms after the first one from which on a tile has names, and eight steps in a pixel
 SQUARES, ROOM = 256, 3  # along the longer side of a shade at most, and how many features a square is wide at least
 RESTS = 20  # what looks at all features is looked at again after so many times as long as it took
 PATIENCE = 10.0  # seconds that a tile waits for others
@@ -38,8 +38,8 @@ SHOWN, OUTLINED, FOUND, PAIRED, CHANGED = 3000, 300, 10, 200, 1000
 SIZES = ("SELECT count(*), avg(maxx - minx), avg(maxy - miny), min(minx), min(miny), max(maxx), max(maxy) FROM {}")
 SHADE = ("SELECT round(((minx + maxx) / 2 - ?) / ? - 0.5) AS i, round(((miny + maxy) / 2 - ?) / ? - 0.5) AS j, count(*)"
          " FROM {} GROUP BY i, j")
-VIOLATIONS = ("FROM overlay_violation v JOIN overlay_rule r ON r.id = v.rule WHERE (v.width IS NULL OR v.width >"
-              " r.least) AND (v.area IS NULL OR v.area >= ?)")
+OF_RULES = "SELECT v.* FROM overlay_rule r CROSS JOIN overlay_violation v WHERE v.rule = r.id AND v.width"
+VIOLATIONS = f"FROM ({OF_RULES} > r.least UNION ALL {OF_RULES} IS NULL) v WHERE (v.area IS NULL OR v.area >= ?)"
 VIOLATION = ("id", "rule", "a", "b", "a_id", "b_id", "area", "width", "minx", "miny", "maxx", "maxy", "who", "why",
              "accepted")
 PAIRS = ("SELECT {other}, {other}_id, relation, area, bound FROM {table} WHERE {own} = ? AND relation <> 'touches'"
@@ -116,8 +116,8 @@ class RegisterMap:
         return Response(body, headers=headers, content_type=TILE)
 
     def _tile(self, register: Register, own: Layer, z: int, i: int, j: int) -> bytes:
-        engine, box = register.engine, square(z, i, j)
-        is_named = own.ident is not None and z >= self._size(register, own)["first"] + NAMED
+        engine, box, after = register.engine, square(z, i, j), z - self._size(register, own)["first"]
+        is_named = own.ident is not None and after >= NAMED
         words = f", CAST(t.{engine.named(own.ident or '')} AS TEXT)" if is_named else ""
         key = f"t.{engine.named(own.key)}"
         rows = engine.ask(f"SELECT {key}, {engine.shape_out(engine.named(own.geom))}{words} FROM {engine.place(own)} t"
@@ -126,7 +126,8 @@ class RegisterMap:
         shapes = [engine.shape_read(row[1]) for row in rows]
         if len(rows) > FEATURES_MOST or sum(len(one or b"") for one in shapes) > BYTES_MOST:
             raise Problem(413, f"a tile has at most {FEATURES_MOST} features of {BYTES_MOST} bytes: look closer")
-        return tile(own.name, [row[0] for row in rows], shapes, [row[2] for row in rows] if is_named else None, box)
+        return tile(own.name, [row[0] for row in rows], shapes, [row[2] for row in rows] if is_named else None, box,
+                    EXTENT if after >= FINE else COARSE)
 
     @page("GET", f"{ROWS}/shade", slow=True)
     def shade(self, name: str) -> Response:
@@ -153,10 +154,11 @@ class RegisterMap:
           whole("rule", "of one rule alone", 0, 0, 2**62, {}), whole("limit", "the most", 100, 1, SHOWN, {}), slow=True)
     def violations(self, bbox: list[Fraction] | None, least: float, accepted: int, outlines: int, rule: int, limit: int
                    ) -> Response:
-        """What breaks rules and is wider than their least: how many, and the largest as rows of columns."""
+        """What breaks rules and is wider than their least: how many, and the largest as rows of columns. A + keeps
+        SQLite from all indexes but that of widths, as few violations are wide."""
         where, values = VIOLATIONS, [least]
-        for is_asked, condition, more in ((not accepted, "v.accepted IS NULL", ()), (rule, "v.rule = ?", (rule,)), (
-                bbox, "v.maxx >= ? AND v.maxy >= ? AND v.minx <= ? AND v.miny <= ?", map(float, bbox or ()))):
+        for is_asked, condition, more in ((not accepted, "v.accepted IS NULL", ()), (rule, "+v.rule = ?", (rule,)), (
+                bbox, "+v.maxx >= ? AND +v.maxy >= ? AND +v.minx <= ? AND +v.miny <= ?", map(float, bbox or ()))):
             if is_asked:
                 where, values = f"{where} AND {condition}", [*values, *more]
         columns = ", ".join(f"v.{name}" for name in (*VIOLATION, *["outline"] * outlines))

@@ -16,7 +16,7 @@ from ..kernel.columns import of_bytes
 from ..kernel.shapes import Shapes
 from ..register.taking import read_all
 
-DOTS, EXTENT = 512, 4096  # a tile's side on the screen, and in its own numbers
+DOTS, EXTENT, COARSE = 512, 4096, 1024  # a tile's side on the screen, and in its own numbers
 FAR = 2**20  # of a tile's own numbers: what goes beyond is cut off out of sight
 MARGIN = 64  # sides of a tile that are left about it then
 MOVE, LINE, CLOSE = 1 << 3 | 1, 2, 1 << 3 | 7  # commands; LINE wants how many
@@ -39,10 +39,10 @@ def square(z: int, i: int, j: int) -> Square:
 
 
 def tile(name: str, fids: Sequence[int], shapes: Sequence[bytes | None], words: Sequence[str | None] | None,
-         box: Square) -> bytes:
-    """A tile with one layer: features by their Well-Known Binary, and where words are given a property `name`."""
-    read = near(shapes, box)
-    points, sizes, counts = dots(read, box)
+         box: Square, extent: int = EXTENT) -> bytes:
+    """A tile with one layer: features by their Well-Known Binary, and where words are given a property `name`. In
+    coarse numbers many corners are one, and for neighbours alike."""
+    points, sizes, counts = dots(near(shapes, box), box, extent)
     if not len(points):
         return b""
     kept = np.flatnonzero(counts)
@@ -53,7 +53,8 @@ def tile(name: str, fids: Sequence[int], shapes: Sequence[bytes | None], words: 
     body = features(own, tags, points, sizes, counts[kept])
     keys = field(3, b"name") if texts else b""
     values = b"".join(field(4, field(1, text.encode())) for text in texts)
-    return field(3, field(1, name.encode()) + body + keys + values + b"\x28\x80\x20\x78\x02")
+    tail = np.array([5 << 3, extent, 15 << 3, 2])  # the extent, and the version of the standard
+    return field(3, field(1, name.encode()) + body + keys + values + varints(tail, lengths(tail)))
 
 
 def near(shapes: Sequence[bytes | None], box: Square) -> Shapes:
@@ -83,10 +84,10 @@ def cut(shape: bytes, edges: tuple[float, ...]) -> bytes | None:
     return None if found is None else bytes(found.ExportToWkb())
 
 
-def dots(read: Shapes, box: Square) -> tuple[Numbers, Numbers, Numbers]:
+def dots(read: Shapes, box: Square, extent: int) -> tuple[Numbers, Numbers, Numbers]:
     """Rings in the numbers of a tile: their points, of each ring how many, of each feature how many rings. A point that
     is the one after it goes, and so does a ring of less than three. Outer rings turn as the standard has it."""
-    scale = EXTENT / (box.right - box.left)
+    scale = extent / (box.right - box.left)
     at = np.rint(np.stack([read.x - box.left, box.high - read.y], 1) * scale).astype(np.int64)
     ring = owners(read.sizes)
     stays = (at != at[after_of(read.sizes)]).any(1)

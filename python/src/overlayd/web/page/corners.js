@@ -75,8 +75,8 @@ export class Corners {
     const {page, owner, begun} = this, changes = begun.changes.filter(one => !isAlone || one.id === owner.chosen.id);
     const headers = page.state.storage ? {"Content-Crs": `<${page.state.storage}>`} : {};
     try {
-      const {change} = await send("POST", "transaction", {changes}, headers);
-      tell(`saved: ${changes.length} ${changes.length === 1 ? "feature" : "features"} as change ${change}`);
+      const {change, features} = await send("POST", "transaction", {changes}, headers);    // neighbours may be among these
+      tell(`saved: ${features.length} ${features.length === 1 ? "feature" : "features"} as change ${change}`);
       await owner.again();
     } catch (fault) {
       const broken = fault.value?.broken ?? [];

@@ -1,10 +1,10 @@
 // Tiles: read from the bytes of a Mapbox Vector Tile, and each drawn on a canvas of its own.
 
-const SIDE = 512, EXTENT = 4096;
+const SIDE = 512;
 const TOGETHER = 20;    // rings of a path: one path of 5,000 takes fifty times as long
 
-// A tile of one layer of polygons: names, rings as x y x y .. in one array, ends[k] where ring k ends, and rings[k] up to
-// which ring feature k goes.
+// A tile of one layer of polygons: its side, names, rings as x y x y .. in one array, ends[k] where ring k ends, and
+// rings[k] up to which ring feature k goes.
 export function readTile(bytes) {
   let at = 0;
   const number = () => {
@@ -20,6 +20,7 @@ export function readTile(bytes) {
     }
   };
   const rings = [], ends = [], points = [], tags = [], values = [];
+  let extent = 4096;
   const shape = end => {
     let x = 0, y = 0;
     while (at < end) {
@@ -37,12 +38,13 @@ export function readTile(bytes) {
         if (part === 2) { number(); tags.push(number()); } else if (part === 4) { shape(inner); rings.push(ends.length); }
       });
     } else if (kind === 4) fields(value, (_, end) => values.push(text(end)));
+    else if (kind === 5) extent = value;
   }));
-  return {rings, ends, points, names: tags.map(tag => values[tag])};
+  return {extent, rings, ends, points, names: tags.map(tag => values[tag])};
 }
 
 function draw(canvas, tile, look, ratio) {
-  const pen = canvas.getContext("2d"), scale = SIDE * ratio / EXTENT, {points, ends} = tile, paths = [];
+  const pen = canvas.getContext("2d"), scale = SIDE * ratio / tile.extent, {points, ends} = tile, paths = [];
   pen.clearRect(0, 0, canvas.width, canvas.height);
   for (let k = 0, at = 0; k < ends.length;) {
     const path = new Path2D();
