@@ -1,4 +1,4 @@
-"""Layers by GDAL's Arrow stream: what GDAL gives one by one; and shards have each feature once."""
+"""Layers by GDAL's Arrow stream: what GDAL gives one by one."""
 
 from __future__ import annotations
 
@@ -10,7 +10,6 @@ import pytest
 from osgeo import gdal, ogr, osr
 
 from overlayd.files.arrow_reading import Layer, ReadingFault
-from overlayd.grid_pass.default_grid import Unit
 from overlayd.kernel.shapes import shapes
 
 FORMS = [("GPKG", ".gpkg"), ("FlatGeobuf", ".fgb"), ("ESRI Shapefile", ".shp"), ("GeoJSON", ".geojson")]
@@ -50,7 +49,6 @@ def test_a_layer_is_read_as_gdal_gives_it(tmp_path: Path, form: str, ending: str
     texts += [] if form == "FlatGeobuf" else [None]  # with an index it keeps no feature without a shape
     names = [f"née {number}" for number in range(len(texts))]
     layer = Layer(made(tmp_path, form, ending, texts, list(names)), name_by="name")
-    assert layer.unit() is Unit.LENGTH and layer.count() == len(texts)
     features = [(feature.GetFID(), feature["name"], feature.GetGeometryRef().ExportToWkb() if feature.GetGeometryRef()
                  else b"") for feature in layer.table]
     (batch,) = layer.batches()
@@ -64,7 +62,7 @@ def test_a_layer_is_read_as_gdal_gives_it(tmp_path: Path, form: str, ending: str
 def test_names_may_be_numbers_and_each_feature_has_one(tmp_path: Path) -> None:
     path = made(tmp_path, "GPKG", ".gpkg", [square(0, 0), square(2, 0)], [12, 700], 4326)
     (batch,) = Layer(path, "map", "name").batches()
-    assert batch.names.tolist() == ["12", "700"] and Layer(path).unit() is Unit.DEGREE
+    assert batch.names.tolist() == ["12", "700"]
     (tmp_path / "more").mkdir()
     path = made(tmp_path / "more", "GPKG", ".gpkg", [square(0, 0), square(2, 0)], ["a", None])
     with pytest.raises(ReadingFault, match="feature 2: no name"):
@@ -74,22 +72,6 @@ def test_names_may_be_numbers_and_each_feature_has_one(tmp_path: Path) -> None:
             Layer(path, **wrong)
     with pytest.raises(ReadingFault, match="nowhere"):
         Layer(str(tmp_path / "nowhere"))
-
-
-@pytest.mark.parametrize("form, ending", FORMS[:2])
-@pytest.mark.parametrize("most", [8, 1000])
-def test_each_feature_is_in_one_shard(tmp_path: Path, form: str, ending: str, most: int) -> None:
-    """Features over each other, on the borders of shards, and one wider than all others."""
-    texts = [square(*place) for place in (*PLACES, *PLACES[:3])] + ["POLYGON ((0 0,18 9,19 0,0 0))"]
-    layer = Layer(made(tmp_path, form, ending, texts, [str(number) for number in range(len(texts))]), name_by="name")
-    shards = layer.shards(most)
-    assert len(shards) > 1 or most == 1000
-    found: list[str] = []
-    for one in shards:
-        own = [name for batch, _, at in layer.shard(one) for name in batch.names[at].tolist()]
-        assert len(own) < len(texts) or most == 1000
-        found += own
-    assert sorted(found) == sorted(str(number) for number in range(len(texts)))
 
 
 def test_shapes_of_a_stream_are_those_of_each_feature(tmp_path: Path) -> None:

@@ -12,7 +12,7 @@ from hypothesis import strategies as drawn
 
 from overlayd.kernel.blocks import Asked, Kind, Wants, block, cells_job, locate_job, pair_blocks, within_blocks
 from overlayd.kernel.box_pairs import pairs, pairs_within
-from overlayd.kernel.features import Features, morton, of_rings
+from overlayd.kernel.features import Features, of_rings
 
 Place = tuple[int, int]
 Way = list[Place]
@@ -71,13 +71,6 @@ def test_a_part_of_a_map_has_its_features_and_boxes(given_map: list[list[Way]], 
     xs, ys = ([[corner[axis] for ring in own for corner in ring] for own in live] for axis in (0, 1))
     assert features.boxes().tolist() == [
         [min(x), min(y), max(x), max(y)] if x else [1, 1, 0, 0] for x, y in zip(xs, ys)]
-
-
-def test_near_boxes_have_near_numbers() -> None:
-    places = [(x, y) for x in range(4) for y in range(4)]
-    found = morton(np.array([(x, y, x, y) for x, y in places]))
-    assert sorted(zip(found.tolist(), places))[:4] == [(0, (0, 0)), (1, (1, 0)), (2, (0, 1)), (3, (1, 1))]
-    assert not len(morton(np.zeros((0, 4), np.int64)))
 
 
 FIRST, SECOND = [[(0, 0), (4, 0), (0, 4)]], [[(1, 1), (5, 1), (1, 5)]]

@@ -4,17 +4,13 @@ import collections
 import hashlib
 import json
 import random
-import unittest
-import unittest.mock
-from fractions import Fraction
 from typing import Any
 
 from overlayd.commands import import_ as to_script
-from overlayd.files import rounding
 from overlayd.grid import limits
 from overlayd.store import layering
 from .common import SQUARE, InFolder, on_file, outcome
-from .plain import below, on, segments_of
+from .plain import segments_of
 
 Ring = list[tuple[int, int]]
 
@@ -337,11 +333,3 @@ class Wrong(InFolder):
         for words in (["--scale", "x", "--fit"], ["--factor", "0"]):
             status, _, errors = outcome(to_script, file, *words)
             self.assertEqual((status, words[0].strip("-") in errors.split("Error: ")[1]), (2, True), errors)
-
-
-class Areas(unittest.TestCase):
-    def test_area_of_a_polygon_with_a_hole(self) -> None:
-        polygons = [[square(0, 0, 10), square(2, 2, 3)[::-1]], [square(20, 0, 1)]]
-        self.assertEqual(rounding.area_of(polygons), Fraction(92))
-        self.assertTrue(on(segments_of(polygons[0]), (2, 3, 1)))
-        self.assertEqual(below(segments_of(polygons[0]), (1, 1, 1)) % 2, 1)

@@ -12,7 +12,8 @@ from overlayd.geometry.areas import Ring, area_of
 from overlayd.geometry.plane import turn
 from overlayd.geometry.rings import polygons_of
 from overlayd.program import Piece, Point as Corner
-from overlayd.store import expressions, layers
+from overlayd.store import layers
+from overlayd.store.opening import opened
 from .common import WithProgram
 from .plain import OPERATIONS, area_twice, below, homogeneous, on, overlay, random_rings, segments_of
 
@@ -116,7 +117,8 @@ class ProgramBeside(WithProgram):
             operation = "&|-^"[number % 4]
             texts = [wkt.write([[ring + ring[:1]] for ring in rings]) for rings in given]
             puts = [f"PUT {name} {text}" for name, text in zip("AB", texts)]
-            (columns,) = expressions.boundaries(self.program, [(puts, f"A {operation} B")])
+            with opened(self.program) as session:
+                columns = layers.columns_of(session, "C", [*puts, f"DEFINE C = A {operation} B"])
             pieces, missing = layers.pieces_of(columns)
             self.assertEqual(missing, [])
             self.assertEqual(sorted(pieces), sorted(overlay(given, operation)))

@@ -2,21 +2,14 @@
 
 from __future__ import annotations
 
-import pathlib
-import shutil
-import subprocess
 from typing import Any
 
 import pytest
 
-from overlayd.grid.limits import COLUMNS
 from overlayd_lab import read_programs, unproved
-from overlayd_lab.measures import peers, serving
+from overlayd_lab.measures import peers
 from overlayd_lab.reference import judging, model, read_store
-from overlayd_lab.trials import covers, damages, live_stress, old_files
-
-needs_gcc = pytest.mark.skipif(not shutil.which("gcc"), reason="no gcc")
-
+from overlayd_lab.trials import damages, live_stress, old_files
 
 # ---- live_stress.py
 
@@ -95,15 +88,7 @@ def test_files_of_format_1() -> None:
     assert len(damages.offsets_of(six)) == 2 * damages.SLOT + 61 + 44 + 1 + 142
 
 
-# ---- covers.py, read_programs.py
-
-
-def test_pairs_of_triangles() -> None:
-    drawn = covers.pairs(20, 1, 10)
-    assert drawn == covers.pairs(20, 1, 10) != covers.pairs(20, 2, 10)
-    assert all(len(set(corners)) == 3 for pair in drawn for corners in pair)
-    assert covers.script(drawn[:1]).count("\n") == 3 + 4 + COLUMNS
-    assert covers.text(((0, 0), (1, 0), (0, 1))) == "POLYGON ((0 0, 1 0, 0 1, 0 0))"
+# ---- read_programs.py
 
 
 def test_programs_stand_side_by_side() -> None:
@@ -117,14 +102,6 @@ def test_programs_stand_side_by_side() -> None:
 
 
 # ---- measures
-
-
-@needs_gcc
-def test_syncs_by_c(tmp_path: pathlib.Path) -> None:
-    subprocess.run(["gcc", "-O2", "-Wall", "-o", tmp_path / "sync", serving.HERE / "sync.c"], check=True)
-    assert serving.Runs("", tmp_path).commit_of_c(3, 2) > 0
-    assert (tmp_path / "plain.db").stat().st_size == 64 * 4096
-    assert serving.ring(4, 0, 0, 10) == "POLYGON ((10 0, 0 10, -10 0, 0 -10, 10 0))"
 
 
 @pytest.mark.parametrize("family", peers.FAMILIES)

@@ -1,5 +1,6 @@
 """The layers of a store that a subcommand works on, and the words that subcommands have for them."""
 
+import contextlib
 import pathlib
 import sys
 from collections.abc import Callable, Iterable
@@ -12,12 +13,11 @@ from ..ending import Unusable
 from ..grid import scale as scales
 from ..program import Refused, Session
 from ..program_files import found_program
-from ..store import expressions
 from ..store.layers import Columns, Layers, columns_of, digests
 from ..store.opening import layers_of, opened
 from ..words import FILE, NUMBER, PROGRAM, Words, option
 
-GIVEN = "given"
+GIVEN, ASKED = "given", "asked"
 Grid = tuple[int, int, int, list[str]]  # x, y, step, rows
 GridFor = Callable[[Layers], tuple[int, ...] | None]
 Writer = Callable[["Map", Words], int]  # writes what was asked for, as the words say, and gives the status
@@ -81,11 +81,16 @@ def scale_beside(store: pathlib.Path, named: pathlib.Path | None) -> tuple[scale
 
 def columns_in(session: Session, program: str, layers: Layers, names: Iterable[str]) -> dict[str, Columns]:
     """The columns of layers. Those of base layers are asked in memory, each of a definition that is its name alone."""
-    texts = {one.name: one.text for one in session.layers()}
-    found = {name: columns_of(session, name) if texts[name] is None else [] for name in names}
-    base = [name for name in found if texts[name] is not None]
-    steps = [([f"PUT {GIVEN} {texts[name]}"], GIVEN) for name in base]
-    return {**found, **dict(zip(base, expressions.boundaries(program, steps) if steps else ()))}
+    texts, found = {one.name: one.text for one in session.layers()}, dict[str, Columns]()
+    with contextlib.ExitStack() as open_ones:
+        memory: Session | None = None
+        for name in names:
+            if (text := texts[name]) is None:
+                found[name] = columns_of(session, name)
+            else:
+                memory = memory or open_ones.enter_context(opened(program))
+                found[name] = columns_of(memory, ASKED, [f"PUT {GIVEN} {text}", f"DEFINE {ASKED} = {GIVEN}"])
+    return found
 
 
 def grid_in(session: Session, name: str, given: tuple[int, ...] | None) -> Grid | None:

@@ -1,12 +1,7 @@
-"""Layers of files as columns, by GDAL's Arrow stream and numpy: no feature of its own in Python.
-
-A layer that is too large is read in shards: boxes that hold so many features, each feature in the shard that has its
-first corner. For a layer without an index each shard reads the whole file.
-"""
+"""Layers of files as columns, by GDAL's Arrow stream and numpy: no feature of its own in Python."""
 
 from __future__ import annotations
 
-import math
 import pathlib
 from collections.abc import Iterator
 from dataclasses import dataclass
@@ -16,17 +11,13 @@ import numpy as np
 
 from .. import ending
 from ..geometry.flat_arrays import Numbers
-from ..grid_pass.default_grid import Unit
 from ..kernel.columns import Column, of_arrow
-from ..kernel.shapes import Shapes, shapes
 from . import coordinate_systems, gdal_files
 
 BATCH = 1 << 16  # features that are read together
-PARTS = 1.25  # a shard is halved where both halves together have at most so many times its features
 SHAPE = "wkb_geometry"  # how a stream calls a column that has no name
 NUMBER = "OGC_FID"
 NAMED_MAX = 20  # properties or layers that a refusal names
-Box = tuple[float, float, float, float]
 
 
 class ReadingFault(Exception):
@@ -40,22 +31,6 @@ class Batch:
     numbers: Numbers
     names: Numbers
     column: Column
-
-
-@dataclass(frozen=True)
-class Shard:
-    """A part of a layer: least x, least y, greatest x, greatest y, of which the greatest do not count."""
-
-    box: Box
-
-    def has(self, found: Shapes) -> Numbers:
-        """Which features have their first corner here; those without one are nowhere."""
-        full = np.flatnonzero(found.counts)
-        first = (np.cumsum(found.sizes) - found.sizes)[(np.cumsum(found.counts) - found.counts)[full]]
-        west, south, east, north = self.box
-        x, y = found.x[first], found.y[first]
-        found_here: Numbers = full[(west <= x) & (x < east) & (south <= y) & (y < north)]
-        return found_here
 
 
 class Layer:
@@ -93,21 +68,8 @@ class Layer:
         found = coordinate_systems.of_layer(self.file, self.table)
         return None if found == coordinate_systems.UNKNOWN else found
 
-    def unit(self) -> Unit:
-        """What the layer's coordinates count."""
-        system = self.table.GetSpatialRef()
-        if system is None or system.IsLocal():
-            return Unit.UNKNOWN
-        return Unit.DEGREE if system.IsGeographic() else Unit.LENGTH
-
-    def count(self, box: Box | None = None) -> int:
-        """How many features have a point in a box."""
-        self._filter(box)
-        return int(self.table.GetFeatureCount())
-
-    def batches(self, box: Box | None = None) -> Iterator[Batch]:
-        """The features that have a point in a box, or all."""
-        self._filter(box)
+    def batches(self) -> Iterator[Batch]:
+        """All features, so many at once."""
         self.table.SetIgnoredFields([field for field in self.fields if field != self.name_by])
         number, shape = self.table.GetFIDColumn() or NUMBER, self.table.GetGeometryColumn() or SHAPE
         try:
@@ -117,12 +79,6 @@ class Layer:
                 yield Batch(numbers, names, of_arrow(batch[shape]))
         except RuntimeError as fault:
             raise ReadingFault(f"{self.path}: {str(fault) or 'GDAL cannot read it to its end'}") from None
-
-    def _filter(self, box: Box | None) -> None:
-        if box is None:
-            self.table.SetSpatialFilter(None)
-        else:
-            self.table.SetSpatialFilterRect(*box)
 
     def _names(self, numbers: Numbers, names: Any) -> Numbers:
         """A property of features as texts, of which each has one."""
@@ -138,47 +94,7 @@ class Layer:
             raise ReadingFault(f"{self.path}: {gdal_files.not_utf8(pathlib.Path(self.path))}") from None
         return found
 
-    def extent(self) -> Box:
-        """The box of all features."""
-        self._filter(None)
-        west, east, south, north = self.table.GetExtent()
-        return west, south, east, north
-
-    def shards(self, most: int) -> list[Shard]:
-        """Boxes that cover the layer, each with no more than so many features, but where halving parts too few."""
-        extent, found = self.extent(), []
-        left = [((-math.inf, -math.inf, math.inf, math.inf), self.count())]
-        while left:
-            box, count = left.pop()
-            halves = [(half, self.count(common(half, extent))) for half in halved(box, extent)]
-            if count <= most or sum(number for _, number in halves) > PARTS * count:
-                found.append(Shard(box))
-            else:
-                left += halves
-        return found
-
-    def shard(self, one: Shard) -> Iterator[tuple[Batch, Shapes, Numbers]]:
-        """The batches of a shard, their rings, and which features of each are its own."""
-        for batch in self.batches(common(one.box, self.extent())):
-            found = shapes(batch.column)
-            yield batch, found, one.has(found)
-
 
 def listed(names: list[str]) -> str:
     """Names in a row, the first of many."""
     return ", ".join(names[:NAMED_MAX]) + (", .." if len(names) > NAMED_MAX else "") or "nothing"
-
-
-def common(a: Box, b: Box) -> Box:
-    """The common part of two boxes."""
-    return max(a[0], b[0]), max(a[1], b[1]), min(a[2], b[2]), min(a[3], b[3])
-
-
-def halved(box: Box, extent: Box) -> tuple[Box, Box]:
-    """A box in two, across the longer side of what it has of another."""
-    west, south, east, north = common(box, extent)
-    if east - west >= north - south:
-        middle = (west + east) / 2
-        return (box[0], box[1], middle, box[3]), (middle, box[1], box[2], box[3])
-    middle = (south + north) / 2
-    return (box[0], box[1], box[2], middle), (box[0], middle, box[2], box[3])

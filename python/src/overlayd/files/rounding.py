@@ -7,7 +7,6 @@ from fractions import Fraction
 from typing import Any
 
 from .. import grid
-from ..geometry import plane
 from ..grid import limits
 from ..grid.scale import Scale
 from .map_reading import Refused, number_of
@@ -147,11 +146,3 @@ def unusable_ring(positions: Any, ring: Ring) -> str | None:
 
 def steps_of(polygons: list[Polygon]) -> int:
     return sum(len(ring) - 1 for polygon in polygons for ring in polygon)
-
-
-def area_of(polygons: list[Polygon]) -> Fraction:
-    """The area of polygons that do not cross themselves or each other, whose holes lie in their outer rings."""
-    def twice(ring: Ring) -> int:
-        return abs(sum(cross for cross, _ in plane.terms([plane.whole(ring)])))
-
-    return Fraction(sum(twice(polygon[0]) - sum(map(twice, polygon[1:])) for polygon in polygons), 2)

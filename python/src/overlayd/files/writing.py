@@ -119,13 +119,3 @@ def whole(path: pathlib.Path) -> Iterator[TextIO]:
         take_places({new: target})
     finally:
         new.unlink(missing_ok=True)
-
-
-def write_durably(path: pathlib.Path, text: str) -> None:
-    """Writes a file whole, and has its name on the disk: a stop leaves the old one or the new one."""
-    write_all({path: text.encode()})
-    folder = os.open(path.resolve().parent, os.O_RDONLY | os.O_DIRECTORY)
-    try:
-        os.fsync(folder)
-    finally:
-        os.close(folder)

@@ -45,11 +45,6 @@ def near_sum(terms: list[Term]) -> Fraction:
     return Fraction(sum((numerator << BITS) // denominator for numerator, denominator in terms), 1 << BITS)
 
 
-def area_of(ring: Ring) -> Fraction:
-    """The area of a ring in whole numbers' unit, greater than 0 for holes too."""
-    return abs(exact_sum(terms_of([ring]))) / 2
-
-
 def area_of_all(polygons: Iterable[list[Ring]]) -> Fraction:
     """The area of polygons without their holes."""
     return exact_sum(terms_of(ring for polygon in polygons for ring in polygon)) / 2

@@ -44,11 +44,6 @@ def ordered(corners: Iterable[Corner]) -> list[Corner]:
     return sorted(found, key=lambda corner: ((corner[0] << bits) // corner[2], (corner[1] << bits) // corner[2]))
 
 
-def middle(piece: Piece) -> Corner:
-    (a, b) = piece
-    return a[0] * b[2] + b[0] * a[2], a[1] * b[2] + b[1] * a[2], 2 * a[2] * b[2]
-
-
 def line_of(piece: Piece, number: int) -> Line:
     (ax, ay, aw), (bx, by, bw) = piece
     return [ay * bw - aw * by, aw * bx - ax * bw, ax * by - ay * bx, number]

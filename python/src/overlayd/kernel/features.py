@@ -9,10 +9,6 @@ import numpy as np
 
 from ..geometry.flat_arrays import Numbers, offsets, spans
 
-MORTON_BITS = 20  # of each axis
-SPREAD = ((16, 0x0000FFFF0000FFFF), (8, 0x00FF00FF00FF00FF), (4, 0x0F0F0F0F0F0F0F0F), (2, 0x3333333333333333),
-          (1, 0x5555555555555555))
-
 
 @dataclass(frozen=True)
 class Features:
@@ -67,19 +63,3 @@ def joined(parts: Sequence[Features]) -> Features:
     rings, numbers = [np.diff(part.ring_at) for part in parts], [np.diff(part.feature_at) for part in parts]
     x, y = (np.concatenate([getattr(part, axis) for part in parts]) for axis in ("x", "y"))
     return Features(x, y, offsets(np.concatenate(rings)), offsets(np.concatenate(numbers)))
-
-
-def morton(boxes: Numbers) -> Numbers:
-    """A number for each box, by which near ones come near each other."""
-    if not len(boxes):
-        return np.zeros(0, np.int64)
-    middle = (boxes[:, :2] + boxes[:, 2:]) // 2
-    middle -= middle.min(axis=0)
-    shift = max(0, int(middle.max()).bit_length() - MORTON_BITS)
-    found: Numbers = np.zeros(len(boxes), np.int64)
-    for axis in (0, 1):
-        own = middle[:, axis] >> shift
-        for by, mask in SPREAD:
-            own = (own | own << by) & mask
-        found |= own << axis
-    return found
