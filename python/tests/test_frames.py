@@ -160,10 +160,10 @@ def test_square_metres_are_given_of_metres_alone(ask: Callable[..., Any]) -> Non
     for system, unit in (("EPSG:4326", "degree"), ("EPSG:2263", "US survey foot"), (None, "not known")):
         with pytest.raises(NotInMetres, match=f"^no areas in square metres: the unit of the coordinates is {unit}; .*"
                                               r"to_crs\(6933\), whose areas are true$"):
-            ask(degrees.set_crs(system, allow_override=True), square_metres=True)
+            ask(geopandas.GeoDataFrame(geometry=degrees.geometry.to_list(), crs=system), square_metres=True)
     globe, _ = pyproj.Geod(ellps="WGS84").geometry_area_perimeter(Polygon(
         [(x, 35.7) for x in np.linspace(-78.7, -78.6, 101)] + [(x, 35.8) for x in np.linspace(-78.6, -78.7, 101)]))
-    assert float(ask(degrees.to_crs(6933), square_metres=True)) == pytest.approx(globe, rel=1e-7)
+    assert float(ask(degrees.to_crs(6933), square_metres=True, grid_size="0.001")) == pytest.approx(globe, rel=1e-7)
 
 
 def test_empty_frames_make_empty_results() -> None:
