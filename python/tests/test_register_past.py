@@ -114,6 +114,7 @@ def test_the_command_and_the_front_give_a_layer_as_it_was(tmp_path: Path) -> Non
     assert (page["id"], page["properties"]["nr"]) == (5, "p4")
     assert client.get(f"{path}/5?datetime={began}")["properties"] == {"nr": "p4"}
     for word, told in ((f"{path}?datetime=2001-01-01T00:00:00Z", "history begins at"),
+                       (f"{path}?datetime=2001-02-30T00:00:00Z", "datetime"),
                        (f"/collections/overlay_result_pz/items?datetime={began}", "layers have a past")):
         found = client.ask(word)
         assert found.status == 400 and told in str(found.value)

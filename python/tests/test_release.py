@@ -222,12 +222,13 @@ def test_bash_completes_options_and_subcommands(built: Built) -> None:
         assert (words, done.stdout.strip(), done.stderr) == (words, wanted, "")
 
 
-def test_the_unit_is_one_and_leaves_little_open(built: Built) -> None:
+@pytest.mark.parametrize("unit", ["overlay-web@city.service", "overlay-register@land.service"])
+def test_a_unit_is_one_and_leaves_little_open(built: Built, unit: str) -> None:
     if not shutil.which("systemd-analyze"):
         pytest.skip("systemd-analyze is not there")
-    done = subprocess.run(["systemd-analyze", "security", "--offline=true", f"--root={built.package}",
-                           "overlay-web@city.service"], capture_output=True, text=True, check=False)
-    level = re.search(r"exposure level for overlay-web@city.service: ([0-9.]+)", done.stdout)
+    done = subprocess.run(["systemd-analyze", "security", "--offline=true", f"--root={built.package}", unit],
+                          capture_output=True, text=True, check=False)
+    level = re.search(rf"exposure level for {unit}: ([0-9.]+)", done.stdout)
     if level is None:
         pytest.skip("systemd-analyze takes no --root")
     assert float(level[1]) < 2 and not re.search("Unknown|Failed to parse|Invalid", done.stderr)

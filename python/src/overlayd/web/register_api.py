@@ -30,7 +30,10 @@ AFTER = whole("after", "go on after the item of this number", 0, 0, 2**63 - 1, {
 def end_of(given: str) -> str | None:
     """A time of RFC 3339, or the end of two, as the log has it; None of an open end, and of none."""
     last = time_of(given).rpartition("/")[2]
-    return moment(last) if last not in ("", "..") else None
+    try:
+        return moment(last) if last not in ("", "..") else None
+    except Refused as fault:
+        raise ValueError(str(fault)) from None
 
 
 AT = Word("datetime", "a layer as it was at a time, or at the end of two with / between", {"type": "string"}, end_of)
