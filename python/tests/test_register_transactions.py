@@ -306,13 +306,20 @@ def test_random_changes_leave_no_rule_broken_that_held(tmp_path: Path, seed: int
     assert own.ask("SELECT count(*) FROM overlay_violation") == [(0,)]
 
 
+TO_FORM_2 = (
+    "DROP VIEW overlay_violation_map", "DROP TABLE overlay_outline", "DROP INDEX overlay_violation_width",
+    "ALTER TABLE overlay_layer DROP COLUMN since", "UPDATE overlay_state SET form = 2",
+    *(f"DELETE FROM {name} WHERE table_name = 'overlay_violation_map'" for name in (
+        "gpkg_geometry_columns", "gpkg_contents")))
+
+
 def test_tables_of_the_version_before_get_rules_and_their_triggers(own: Land) -> None:
     engine = own.register.engine
     for rule in own.register.rules():
         drop_rule(own.register, rule.number)
-    for text in ("DROP TABLE overlay_rule", "DROP TABLE overlay_violation", "DROP INDEX overlay_log_change",
+    for text in (*TO_FORM_2, "DROP TABLE overlay_rule", "DROP TABLE overlay_violation", "DROP INDEX overlay_log_change",
                  "DROP INDEX overlay_log_fid", "UPDATE overlay_state SET form = 1",
-                 "ALTER TABLE overlay_layer DROP COLUMN since", "DROP TRIGGER overlay_parcels_update",
+                 "DROP TRIGGER overlay_parcels_update",
                  "DELETE FROM gpkg_contents WHERE table_name IN ('overlay_rule', 'overlay_violation')"):
         engine.ask(text)
     with pytest.raises(Refused, match="tables of version 1, and not 3"):
@@ -323,3 +330,13 @@ def test_tables_of_the_version_before_get_rules_and_their_triggers(own: Land) ->
     with pytest.raises(Breaks):
         told(own, put(2, box(8, 0, 20, 10)))
     undo(own.register, own.program, told(own, put(2, box(10, 0, 19, 10))).number)
+
+
+def test_tables_of_the_last_version_get_a_history_and_a_layer_of_violations(own: Land) -> None:
+    wanted = own.ask("SELECT type, name FROM sqlite_master ORDER BY 2")
+    for text in TO_FORM_2:
+        own.ask(text)
+    assert own.register.upgrade()
+    assert own.ask("SELECT type, name FROM sqlite_master ORDER BY 2") == wanted
+    assert own.ask("SELECT count(*) FROM overlay_layer WHERE since IS NULL") == [(0,)]
+    told(own, *WORKS["a parcel is split"])

@@ -132,16 +132,17 @@ class Register:
             self.need()
             return False
         with self.own_change():
-            if form < 2:
-                for name in ("overlay_rule", "overlay_violation"):
-                    self.engine.create(name, statements.LISTED[name], is_listed=True)
-                for text in statements.INDEXES_OF_TABLES:
-                    self.engine.ask(text)
+            for name in ("overlay_rule", "overlay_violation") if form < 2 else ():
+                self.engine.create(name, statements.LISTED[name], is_listed=True)
+            for text in statements.INDEXES_OF_TABLES:
+                self.engine.ask(text)
             self.engine.ask("ALTER TABLE overlay_layer ADD COLUMN since TEXT")
             self.engine.ask(statements.BEGIN_SINCE, now())
             self.engine.make_functions()
             for layer in self.layers().values():
                 self.engine.arm(layer)
+            for rule in self.rules()[:1]:
+                self.engine.show_violations(self.layer(rule.a))
             self.engine.ask(statements.SET_FORM, FORM)
         return True
 

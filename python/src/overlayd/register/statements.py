@@ -27,12 +27,12 @@ PAIRS = ("id KEY, a BIGINT NOT NULL, b BIGINT NOT NULL, a_id TEXT, b_id TEXT, re
          " area DOUBLE PRECISION, bound DOUBLE PRECISION")
 CELLS = "id KEY, i BIGINT NOT NULL, j BIGINT NOT NULL, area DOUBLE PRECISION, bound DOUBLE PRECISION"
 INDEXES_OF_TABLES = (
-    "CREATE INDEX overlay_log_change ON overlay_log (change)",
-    "CREATE INDEX overlay_log_fid ON overlay_log (layer, fid)",
-    "CREATE INDEX overlay_violation_a ON overlay_violation (rule, a)",
-    "CREATE INDEX overlay_violation_b ON overlay_violation (rule, b)",
-    "CREATE INDEX overlay_violation_x ON overlay_violation (rule, minx)",
-    "CREATE INDEX overlay_violation_width ON overlay_violation (rule, width)")
+    "CREATE INDEX IF NOT EXISTS overlay_log_change ON overlay_log (change)",
+    "CREATE INDEX IF NOT EXISTS overlay_log_fid ON overlay_log (layer, fid)",
+    "CREATE INDEX IF NOT EXISTS overlay_violation_a ON overlay_violation (rule, a)",
+    "CREATE INDEX IF NOT EXISTS overlay_violation_b ON overlay_violation (rule, b)",
+    "CREATE INDEX IF NOT EXISTS overlay_violation_x ON overlay_violation (rule, minx)",
+    "CREATE INDEX IF NOT EXISTS overlay_violation_width ON overlay_violation (rule, width)")
 INDEXES = {PAIRS: ("a, b", "b"), CELLS: ("i, j",)}  # the first of each is unique
 
 BEGIN_STATE = "INSERT INTO overlay_state (one, form, version, at, schema_was, factor) VALUES (1, ?, 0, NULL, 0, ?)"
