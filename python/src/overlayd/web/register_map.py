@@ -15,6 +15,7 @@ from typing import Any
 
 from flask import Response, request
 
+from ..files.coordinate_systems import unit_of
 from ..register.blobs import bounds
 from ..register.geojson import geometry_of
 from ..register.model import Kind, Layer
@@ -35,6 +36,7 @@ SQUARES, ROOM = 256, 3  # along the longer side of a shade at most, and how many
 RESTS = 20  # what looks at all features is looked at again after so many times as long as it took
 PATIENCE = 10.0  # seconds that a tile waits for others
 SHOWN, OUTLINED, FOUND, PAIRED, CHANGED = 3000, 300, 10, 200, 1000
+UNITS = {"metre": "m", "degree": "°"}
 SIZES = ("SELECT count(*), avg(maxx - minx), avg(maxy - miny), min(minx), min(miny), max(maxx), max(maxy) FROM {}")
 SHADE = ("SELECT round(((minx + maxx) / 2 - ?) / ? - 0.5) AS i, round(((miny + maxy) / 2 - ?) / ? - 0.5) AS j, count(*)"
          " FROM {} GROUP BY i, j")
@@ -86,11 +88,11 @@ class RegisterMap:
     def map(self) -> Response:
         """What the page begins with."""
         with self.registers.reading() as register:
-            ((version, last),) = register.engine.ask(NOW)
+            ((version, last),), unit = register.engine.ask(NOW), unit_of(self.pages.scale.crs)
             made = {"title": self.pages.scale.title, "writable": self.pages.writable, "crs": self.pages.scale.crs,
-                    "storage": self.systems.storage, "version": version, "last": last,
-                    "y_first": bool(self.systems.projection and self.systems.projection.y_first),
-                    "grid": float(1 / register.need().factor), "names": NAMED,
+                    "storage": self.systems.storage, "unit": UNITS.get(unit or "", unit or ""), "version": version,
+                    "y_first": bool(self.systems.projection and self.systems.projection.y_first), "last": last,
+                    "grid": float(1 / register.need().factor),
                     "layers": [self._size(register, one) for one in register.layers().values()],
                     "rules": [{"number": one.number, "rule": str(one), "least": one.least, "a": one.a, "b": one.b}
                               for one in register.rules()]}

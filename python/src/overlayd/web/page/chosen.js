@@ -2,6 +2,7 @@
 
 import {ask, at, button, make, send, tell, telling} from "./ask.js";
 import {Corners} from "./corners.js";
+import {meets} from "./tiles.js";
 import {rowsOf} from "./violations.js";
 
 function table(rows) {
@@ -48,10 +49,12 @@ export class Chosen {
     this.chosen = {name, id, ...item};
     this.show(results.tables, rowsOf(results.violations), changes);
     this.marked.clearLayers();
+    this.box = null;
     if (item.geometry) {
       const shape = this.page.shape(L.GeoJSON.asFeature(item.geometry), {color: "#111", weight: 4, fillColor: "#7aa7ff", fillOpacity: 0.12}).addTo(this.marked);
       const box = shape.getBounds();
-      if (isMoved) this.page.fit([box.getWest(), box.getSouth(), box.getEast(), box.getNorth()], 0.4, {maxZoom: (this.page.of(name)?.first ?? 0) + 5});
+      this.box = [box.getWest(), box.getSouth(), box.getEast(), box.getNorth()];
+      if (isMoved) this.page.fit(this.box, 0.4, {maxZoom: (this.page.of(name)?.first ?? 0) + 5});
     }
     this.page.remember();
   }
@@ -67,7 +70,7 @@ export class Chosen {
     if (page.state.writable && chosen.geometry) head.append(button("Edit corners", () => this.edit()));
     head.append(Object.assign(button("×", () => this.leave()), {ariaLabel: "close"}));
     const own = Object.entries(chosen.properties).map(([key, value]) => [key, value === null ? "" : String(value)]);
-    parts.push(table([...own, ...chosen.geometry ? [["area", `${areaOf(chosen.geometry, page.state.grid)}${page.unit() ? ` ${page.unit()}²` : ""}`]] : []]));
+    parts.push(table([...own, ...chosen.geometry ? [["area", page.squared(areaOf(chosen.geometry, page.state.grid))]] : []]));
     if (broken.length) {
       parts.push(make("h3", "Breaks rules"), table(broken.map(row => {
         const [mark, name, area] = page.violations.cells(row);
@@ -108,10 +111,12 @@ export class Chosen {
     await this.choose(name, id, false).catch(fault => { if (fault.status !== 404) throw fault; this.leave(); });
   }
 
-  async heard(changes) {
-    const own = this.chosen && changes.find(one => one.collection === this.chosen.name && one.id === this.chosen.id);
-    if (!own) { if (this.chosen && !this.corners.isBegun()) await this.again(); return; }
-    if (this.corners.isBegun()) tell(`${this.title()} has just been changed by ${own.who ?? "another program"}: your change is of the older one`, true);
-    else await this.again();
+  // What others have changed: the feature itself, or one that lies at it, so that results may be others.
+  async heard(changes, all) {
+    const {chosen} = this, isNear = box => !this.box || meets(box, this.box);
+    if (!chosen) return;
+    const own = changes.find(one => one.collection === chosen.name && one.id === chosen.id);
+    if (!this.corners.isOpen()) { if (all || own || changes.some(one => one.boxes.some(isNear))) await this.again(); return; }
+    if (own) tell(`${this.title()} has just been changed by ${own.who ?? "another program"}: your change is of the older one`, true);
   }
 }

@@ -15,7 +15,7 @@ export class Corners {
     this.begun = null;    // {from, goal, changes}
   }
 
-  isBegun() { return this.begun !== null; }
+  isOpen() { return this.handles.getLayers().length > 0; }
 
   stop() {
     this.begun = null;
@@ -57,7 +57,7 @@ export class Corners {
     this.ghost.clearLayers();
     for (const {feature} of now.changes) this.ghost.addLayer(page.shape(feature, {color: "#0a58ca", weight: 2, dashArray: "6 4", fill: false}));
     const added = features.reduce((sum, one) => sum + one.added, 0), far = Math.hypot(goal[0] - from[0], goal[1] - from[1]);
-    this.bar(`Corner ${Number(far.toFixed(6))} ${page.unit()} away, shared by ${features.map(one => one.name).join(", ")}`
+    this.bar(`Corner ${Number(far.toFixed(6))} ${page.state.unit} away, shared by ${features.map(one => one.name).join(", ")}`
       + `${added ? `; ${added} ${added === 1 ? "corner" : "corners"} of others on these borders stay` : ""}`);
   }
 

@@ -27,19 +27,18 @@ class Page {
       const look = {fill: k ? null : "#fbf9f2", line: LINES[k % LINES.length], pale: PALE[k % PALE.length], width: k ? 1.6 : 1};
       return [layer.name, makeTiles(layer.name, look, {minZoom: layer.first, maxZoom: 64, zIndex: k + 2}).addTo(this.map)];
     }));
-    measure(this.map, this.unit());
+    measure(this.map, state.unit);
     this.map.on("zoomend", () => this.shade());
     new ResizeObserver(() => this.map.invalidateSize({animate: false})).observe(this.map.getContainer());
   }
 
-  unit() { return /^EPSG:4326$|CRS84/.test(this.state.crs ?? "") ? "°" : this.state.crs ? "m" : ""; }
-
   // An area in words.
   area(value) {
     if (value === null || value === undefined) return "no answer";
-    const unit = this.unit() ? ` ${this.unit()}²` : "";
-    return `${value >= 1e-3 || value === 0 ? value.toFixed(value >= 1 ? 2 : 4) : value.toExponential(2)}${unit}`;
+    return this.squared(value >= 1e-3 || value === 0 ? value.toFixed(value >= 1 ? 2 : 4) : value.toExponential(2));
   }
+
+  squared = text => this.state.unit ? `${text} ${this.state.unit}²` : text;
 
   // A position as the front sends it, as Leaflet has it.
   placed = ([a, b]) => this.state.y_first ? L.latLng(a, b) : L.latLng(b, a);
@@ -169,7 +168,7 @@ class Page {
       const boxes = changes.filter(one => one.collection === name).flatMap(one => one.boxes);
       if (all || boxes.length) tiles.again(all ? null : boxes);
     }
-    await Promise.all([this.violations.show(true), this.violations.list(), this.chosen.heard(changes)]);
+    await Promise.all([this.violations.show(true), this.violations.list(), this.chosen.heard(changes, all)]);
   }
 
   attend() {
