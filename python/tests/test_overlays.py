@@ -8,7 +8,7 @@ from fractions import Fraction
 from typing import Any
 
 from overlayd.geometry import wkt
-from overlayd.geometry.areas import Ring, area_of
+from overlayd.geometry.areas import Ring, area_of_all
 from overlayd.geometry.plane import turn
 from overlayd.geometry.rings import polygons_of
 from overlayd.program import Piece, Point as Corner
@@ -34,7 +34,7 @@ def check_holes(test: unittest.TestCase, polygons: list[list[Ring]]) -> None:
             part = Fraction(144, 377)
             place = homogeneous(ax + part * (bx - ax), ay + part * (by - ay))
             round_it = [other for other in polygons if contains(other[0], place)]
-            test.assertIs(min(round_it, key=lambda other: area_of(other[0])), polygon)
+            test.assertIs(min(round_it, key=lambda other: area_of_all([other[:1]])), polygon)
 
 
 def check(test: unittest.TestCase, layers: list[Any], inside: Callable[..., bool],

@@ -212,7 +212,7 @@ def test_each_command_has_a_page_without_faults(built: Built) -> None:
 def test_bash_completes_options_and_subcommands(built: Built) -> None:
     for words, wanted in (
         ("overlay which --st", "--store"), ("overlay che", "check"), ("overlay rings --ar", "--areas"),
-        ("overlay export --fe", "--features"), ("overlay --ver", "--version"),
+        ("overlay export --pa", "--parts"), ("overlay --ver", "--version"),
         ("overlay serve --store nothing --wr", "--writable"), ("overlay show --on", "--only-make"),
     ):
         text = (f"source {built.prefix}/share/bash-completion/completions/overlay; COMP_WORDS=({words}); "
@@ -260,14 +260,17 @@ def test_the_package_says_what_it_needs(built: Built) -> None:
 
 def test_a_first_map_comes_back_with_its_names_and_is_served(built: Built, tmp_path: pathlib.Path) -> None:
     shutil.copy(MAP, tmp_path / "nc.geojson")
-    done = built.ran("overlay", "show", "nc.geojson", "--only-make", cwd=tmp_path)
+    done = built.ran("overlay", "show", "nc.geojson", "--only-make", "--output", "nc.gpkg", cwd=tmp_path)
     assert done.returncode == 0, done.stderr
-    store = "--store", "nc.overlay/nc.db"
-    assert built.ran("overlay", "which", *store, *RALEIGH, cwd=tmp_path).stdout.strip() == "Wake"
-    done = built.ran("overlay", "export", *store, "--features", cwd=tmp_path)
-    assert len(json.loads(done.stdout)["features"]) == 100
+    done = built.ran("overlay", "import", "nc.geojson", "--fit", "--split", "--output", "nc.txt", cwd=tmp_path)
+    assert done.returncode == 0, done.stderr
+    assert built.ran("overlayd", "--store", "nc.db", "--create", "nc.txt", cwd=tmp_path).returncode == 0
+    store = "--store", "nc.db"
+    assert built.ran("overlay", "which", *store, *RALEIGH, cwd=tmp_path).stdout.strip() == "nc"
+    done = built.ran("overlay", "export", *store, "--top", cwd=tmp_path)
+    assert len(json.loads(done.stdout)["features"]) == 1
     assert built.ran("overlay", "check", "nc.geojson", "--out", "o.csv", cwd=tmp_path).returncode == 0
-    words = [str(built.prefix / "bin/overlay"), "serve", *store, "--port", "0"]
+    words = [str(built.prefix / "bin/overlay"), "serve", "nc.gpkg", "--port", "0"]
     with subprocess.Popen(words, cwd=tmp_path, stdout=subprocess.PIPE, text=True, env=built.environment()) as front:
         assert front.stdout
         address = front.stdout.readline().strip()

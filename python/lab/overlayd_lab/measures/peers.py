@@ -25,7 +25,6 @@ import tempfile
 
 from overlayd.grid.limits import COLUMNS, COORDINATE_MAX
 from overlayd_lab.counting import Words
-from overlayd_lab.measures import serving
 from overlayd_lab.processor_time import processor
 
 Point = tuple[int, int]
@@ -50,6 +49,11 @@ def round_about(x: int, y: int, step: int, radii: list[int]) -> Layer:
     """A ring round a centre that goes on by `step` parts of a turn from point to point."""
     turns = [(2 * math.pi * step * i / len(radii), radius) for i, radius in enumerate(radii)]
     return [closed(*((x + round(far * math.cos(turn)), y + round(far * math.sin(turn))) for turn, far in turns))]
+
+
+def spread(number: int) -> int:
+    """A coordinate somewhere in the plane."""
+    return number % 2000001 - 1000000
 
 
 def stars(edges: int) -> list[Layer]:
@@ -189,10 +193,10 @@ def overlays(
 def locates(programs: list[pathlib.Path], built: dict[str, pathlib.Path], folder: pathlib.Path) -> None:
     """Prints the time of a line of LOCATE."""
     for steps in (4, 256, 2000):
-        ring = serving.ring(steps, 0, 0, 1000000)
+        ring = text_of(round_about(0, 0, 1, [1_000_000] * steps))
         path = folder / "map"
         path.write_text(ring + "\n")
-        points = [(serving.spread(7919 * n), serving.spread(104729 * n)) for n in range(POINTS)]
+        points = [(spread(7919 * n), spread(104729 * n)) for n in range(POINTS)]
         lines = [f"PUT A {ring}"] + [f"LOCATE A {x} {y}" for x, y in points]
         best = least(programs, folder, [lines[:1], lines])
         cells = "; ".join(f"{1e6 * (best[at, 1] - best[at, 0]) / POINTS:.2f} us" for at in range(len(programs)))

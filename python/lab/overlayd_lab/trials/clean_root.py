@@ -37,7 +37,7 @@ SHARED = 'mount -t tmpfs -o mode=1777 tmpfs "$0/dev/shm" && exec chroot "$@"'
 Done = subprocess.CompletedProcess[str]
 SERVED = """
 import json, subprocess, urllib.request
-words = ["overlay", "serve", "--store", "nc.overlay/nc.db", "--port", "0"]
+words = ["overlay", "serve", "nc.gpkg", "--port", "0"]
 front = subprocess.Popen(words, stdout=subprocess.PIPE, text=True)
 address = front.stdout.readline().strip()
 with urllib.request.urlopen(address + "collections/nc/items?limit=1000") as answer:
@@ -108,20 +108,23 @@ def try_uses(tries: Tries, root: Root, how: str, path: str) -> None:
     def ran(*words: str) -> Done:
         return root.ran(*words, user="nobody", path=path)
 
-    done = ran("overlay", "show", "nc.geojson", "--only-make")
+    done = ran("overlay", "show", "nc.geojson", "--only-make", "--output", "nc.gpkg")
     tries.that(done.returncode == 0, f"{how}: a first map: {done.stderr.strip().splitlines()[-1:]}")
-    done = ran("overlay", "which", "--store", "nc.overlay/nc.db", "-78.64", "35.77")
-    tries.that(done.stdout == "Wake\n", f"{how}: Raleigh is in Wake")
-    written = ran("overlay", "export", "--store", "nc.overlay/nc.db", "--features").stdout
-    tries.that(written and len(json.loads(written)["features"]) == 100, f"{how}: 100 features come back")
+    ran("overlay", "import", "nc.geojson", "--fit", "--split", "--output", "nc.txt")
+    ran("overlayd", "--store", "nc.db", "--create", "nc.txt")
+    done = ran("overlay", "which", "--store", "nc.db", "-78.64", "35.77")
+    tries.that(done.stdout == "nc\n", f"{how}: Raleigh is in the state")
+    written = ran("overlay", "export", "--store", "nc.db", "--top").stdout
+    tries.that(written and len(json.loads(written)["features"]) == 1, f"{how}: a layer comes back")
     done = ran("overlay", "check", "nc.geojson", "--factor", "100000", "--out", "o.csv")
     tries.that(done.returncode == 0 and (place / "o.csv").is_file(), f"{how}: a map of any size is checked")
     done = ran("python3", "-c", SERVED)
     tries.that(done.stdout == "100\n0\n", f"{how}: the front serves 100 features and ends with 0 {done.stderr.strip()}")
-    done = ran("overlay", "show", "none.geojson", "--only-make")
-    tries.that(done.returncode == 2 and done.stderr.count("\n") == 1, f"{how}: {done.stderr.strip()}")
-    done = ran("overlay", "show", "nc.gpkg", "--only-make")
-    tries.that(done.returncode == 2 and len(list(place.iterdir())) == 3, f"{how}: {done.stderr.strip()}")
+    files = len(list(place.iterdir()))
+    for name in ("none.geojson", "nc.txt"):
+        done = ran("overlay", "show", name, "--only-make", "--output", "other.gpkg")
+        tries.that(done.returncode == 2 and done.stderr.count("\n") == 1 and len(list(place.iterdir())) == files,
+                   f"{how}: {done.stderr.strip()}")
 
 
 def try_package(tries: Tries, root: Root, package: pathlib.Path) -> None:
