@@ -25,7 +25,6 @@ from .common import TOP, Programs
 
 SECONDS = 1_700_000_000  # 2023-11-14
 MAP = TOP / "tools/data/north_carolina.geojson"
-RALEIGH = ("-78.64", "35.77")  # in Wake
 NAMES = ("overlay_features", "overlay_live", "overlayd")
 DEBIANS_PYTHON = "/usr/bin/python3"
 NEEDED = ("rt", "dh", "help2man", "dpkg-buildpackage")
@@ -212,7 +211,7 @@ def test_each_command_has_a_page_without_faults(built: Built) -> None:
 def test_bash_completes_options_and_subcommands(built: Built) -> None:
     for words, wanted in (
         ("overlay which --st", "--store"), ("overlay che", "check"), ("overlay rings --ar", "--areas"),
-        ("overlay export --pa", "--parts"), ("overlay --ver", "--version"),
+        ("overlay export --ou", "--output"), ("overlay --ver", "--version"),
         ("overlay serve --store nothing --wr", "--writable"), ("overlay show --on", "--only-make"),
     ):
         text = (f"source {built.prefix}/share/bash-completion/completions/overlay; COMP_WORDS=({words}); "
@@ -258,17 +257,20 @@ def test_the_package_says_what_it_needs(built: Built) -> None:
 # ---- what is used
 
 
-def test_a_first_map_comes_back_with_its_names_and_is_served(built: Built, tmp_path: pathlib.Path) -> None:
+def test_a_store_is_made_and_asked(built: Built, tmp_path: pathlib.Path) -> None:
+    shutil.copy(TOP / "tools/data/iceland_110m.geojson", tmp_path / "iceland.geojson")
+    for words in (("overlay", "import", "iceland.geojson", "--fit", "--output", "map.txt"),
+                  ("overlayd", "--store", "map.db", "--create", "map.txt")):
+        done = built.ran(*words, cwd=tmp_path)
+        assert done.returncode == 0, done.stderr
+    assert built.ran("overlay", "which", "--store", "map.db", "-18", "65", cwd=tmp_path).stdout == "iceland\n"
+
+
+def test_a_first_map_is_checked_and_served(built: Built, tmp_path: pathlib.Path) -> None:
     shutil.copy(MAP, tmp_path / "nc.geojson")
     done = built.ran("overlay", "show", "nc.geojson", "--only-make", "--output", "nc.gpkg", cwd=tmp_path)
     assert done.returncode == 0, done.stderr
-    done = built.ran("overlay", "import", "nc.geojson", "--fit", "--split", "--output", "nc.txt", cwd=tmp_path)
-    assert done.returncode == 0, done.stderr
-    assert built.ran("overlayd", "--store", "nc.db", "--create", "nc.txt", cwd=tmp_path).returncode == 0
-    store = "--store", "nc.db"
-    assert built.ran("overlay", "which", *store, *RALEIGH, cwd=tmp_path).stdout.strip() == "nc"
-    done = built.ran("overlay", "export", *store, "--top", cwd=tmp_path)
-    assert len(json.loads(done.stdout)["features"]) == 1
+    assert "layer nc: 0 changes pending\n" in built.ran("overlay", "register", "status", "nc.gpkg", cwd=tmp_path).stdout
     assert built.ran("overlay", "check", "nc.geojson", "--out", "o.csv", cwd=tmp_path).returncode == 0
     words = [str(built.prefix / "bin/overlay"), "serve", "nc.gpkg", "--port", "0"]
     with subprocess.Popen(words, cwd=tmp_path, stdout=subprocess.PIPE, text=True, env=built.environment()) as front:

@@ -1,9 +1,10 @@
 """Does a release work on a machine that has nothing but Debian's base and Python, and leave nothing when it is removed?
 
 The Debian package is installed by dpkg in a root that debootstrap makes, and used there by a user without rights: a map
-goes into a store, comes back with its features, is asked and served; then it is installed over itself, removed and
-purged, and each file of the root is looked at. The archive is unpacked there too, and lintian reads the package. Not of
-the gate; it needs root, and installs debootstrap and lintian of Debian where they are missing.
+becomes a register, is checked and served, another one a store, which is asked; then it is installed over itself,
+removed and purged, and each file of the root is looked at. The archive is unpacked there too, the wheel installed in an
+environment there, and lintian reads the package. Not of the gate; it needs root, and installs debootstrap and lintian
+of Debian where they are missing.
 
     python3 -m overlayd_lab.trials.clean_root [--programs FOLDER] [--base FOLDER]
 
@@ -14,7 +15,6 @@ or what fell.
 from __future__ import annotations
 
 import argparse
-import json
 import os
 import pathlib
 import shutil
@@ -98,33 +98,29 @@ def made_release(programs: pathlib.Path | None, folder: pathlib.Path) -> dict[st
 
 
 def try_uses(tries: Tries, root: Root, how: str, path: str) -> None:
-    """A map's way into a store and back, by a user without rights, in a folder of its own."""
+    """Maps become a register and a store, and are asked, by a user without rights, in a folder of its own."""
     place = root.folder / "tmp/maps"
     shutil.rmtree(place, ignore_errors=True)
     place.mkdir()
     place.chmod(0o777)
-    shutil.copy(TOP / "tools/data/north_carolina.geojson", place / "nc.geojson")
+    for name, short in (("north_carolina", "nc"), ("iceland_110m", "iceland")):
+        shutil.copy(TOP / f"tools/data/{name}.geojson", place / f"{short}.geojson")
 
     def ran(*words: str) -> Done:
         return root.ran(*words, user="nobody", path=path)
 
     done = ran("overlay", "show", "nc.geojson", "--only-make", "--output", "nc.gpkg")
     tries.that(done.returncode == 0, f"{how}: a first map: {done.stderr.strip().splitlines()[-1:]}")
-    ran("overlay", "import", "nc.geojson", "--fit", "--split", "--output", "nc.txt")
-    ran("overlayd", "--store", "nc.db", "--create", "nc.txt")
-    done = ran("overlay", "which", "--store", "nc.db", "-78.64", "35.77")
-    tries.that(done.stdout == "nc\n", f"{how}: Raleigh is in the state")
-    written = ran("overlay", "export", "--store", "nc.db", "--top").stdout
-    tries.that(written and len(json.loads(written)["features"]) == 1, f"{how}: a layer comes back")
+    ran("overlay", "import", "iceland.geojson", "--fit", "--output", "map.txt")
+    ran("overlayd", "--store", "map.db", "--create", "map.txt")
+    done = ran("overlay", "which", "--store", "map.db", "-18", "65")
+    tries.that(done.stdout == "iceland\n", f"{how}: a store has a point in Iceland {done.stderr.strip()}")
     done = ran("overlay", "check", "nc.geojson", "--factor", "100000", "--out", "o.csv")
     tries.that(done.returncode == 0 and (place / "o.csv").is_file(), f"{how}: a map of any size is checked")
     done = ran("python3", "-c", SERVED)
     tries.that(done.stdout == "100\n0\n", f"{how}: the front serves 100 features and ends with 0 {done.stderr.strip()}")
-    files = len(list(place.iterdir()))
-    for name in ("none.geojson", "nc.txt"):
-        done = ran("overlay", "show", name, "--only-make", "--output", "other.gpkg")
-        tries.that(done.returncode == 2 and done.stderr.count("\n") == 1 and len(list(place.iterdir())) == files,
-                   f"{how}: {done.stderr.strip()}")
+    done = ran("overlay", "show", "none.geojson", "--only-make", "--output", "none.gpkg")
+    tries.that(done.returncode == 2 and done.stderr.count("\n") == 1, f"{how}: {done.stderr.strip()}")
 
 
 def try_package(tries: Tries, root: Root, package: pathlib.Path) -> None:
