@@ -21,6 +21,7 @@ SHAPES = {
     "two": f"MULTIPOLYGON (({RING}), ((70 70, 99.37 70, 80 80, 70 70), (74 71, 80 75, 80 71, 74 71)))",
     "heights": "POLYGON Z ((10 10 1, 60 10 2, 60 60 3, 10 10 1))",
     "far": "POLYGON ((-9e6 10, 9e6 10, 9e6 90, -9e6 90, -9e6 10))",
+    "far and crossing itself": "POLYGON ((-9e6 -8e6, 9e6 8e6, 9e6 -8e6, -9e6 8e6, -9e6 -8e6))",
     "beyond an edge": "POLYGON ((-50 -50, 500 20, 30 300, -50 -50))",
 }
 
@@ -71,11 +72,14 @@ def test_a_tile_has_shapes_as_they_are_but_for_rounding(name: str, order: int, e
     ((number, word, found),) = read(tile("parcels", [2**40 + 1], [bytes(moved(SHAPES[name]).ExportToWkb(order))],
                                          [name], BOX, extent))
     assert (number, word) == (2**40 + 1, name)
-    wanted = rounded(SHAPES[name], extent)
-    if name == "far":  # cut off out of sight
+    wanted, most = rounded(SHAPES[name], extent), 0.0
+    if name.startswith("far"):  # cut off out of sight
+        wanted = wanted.MakeValid()
         frame = ogr.CreateGeometryFromWkt("POLYGON ((-9999 -9999, 9999 -9999, 9999 9999, -9999 9999, -9999 -9999))")
         found, wanted = found.Intersection(frame), wanted.Intersection(frame)
-    assert found.IsValid() and found.SymDifference(wanted).GetArea() == 0, (str(found), str(wanted))
+        most = wanted.Boundary().Length() / 4
+    assert found.IsValid()
+    assert found.SymDifference(wanted).GetArea() <= most, (str(found), str(wanted))
 
 
 def test_a_tile_of_many_has_each_and_leaves_out_what_is_less_than_a_dot() -> None:

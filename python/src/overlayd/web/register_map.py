@@ -28,7 +28,7 @@ from .vector_tiles import COARSE, EXTENT, square, tile
 from .views import Busy
 
 TILE = "application/vnd.mapbox-vector-tile"
-FEATURES_MOST, BYTES_MOST = 40_000, 1 << 25  # of a tile
+FEATURES_MOST, BYTES_MOST = 40_000, 1 << 24  # of a tile
 ZOOM_LEAST, ZOOM_MOST = -32, 32
 PIXELS = 6  # a feature's mean width on the screen from which on a layer is drawn
 NAMED, FINE = 3, 2  # zooms after the first one from which on a tile has names, and eight steps in a pixel

@@ -6,12 +6,13 @@ and below the layers' (0, 0), x grows to the right and y downwards: so an addres
 
 from __future__ import annotations
 
+import contextlib
 from collections.abc import Sequence
 from typing import NamedTuple
 
 import numpy as np
 
-from ..geometry.flat_arrays import Numbers, after_of, offsets, owners
+from ..geometry.flat_arrays import Numbers, offsets, owners
 from ..kernel.columns import of_bytes
 from ..kernel.shapes import Shapes
 from ..register.taking import read_all
@@ -43,7 +44,7 @@ def tile(name: str, fids: Sequence[int], shapes: Sequence[bytes | None], words: 
     """A tile with one layer: features by their Well-Known Binary, and where words are given a property `name`. In
     coarse numbers many corners are one, and for neighbours alike."""
     points, sizes, counts = dots(near(shapes, box), box, extent)
-    if not len(points):
+    if not len(sizes):
         return b""
     kept = np.flatnonzero(counts)
     own = np.array(fids, np.int64)[kept]
@@ -61,9 +62,11 @@ def near(shapes: Sequence[bytes | None], box: Square) -> Shapes:
     """The rings of features; those that go too far from a box for a tile's numbers are cut off out of sight."""
     read, _ = read_all(of_bytes(shapes))
     side = box.right - box.left
-    is_far = (np.abs(read.x - box.left) > FAR / EXTENT * side) | (np.abs(read.y - box.low) > FAR / EXTENT * side)
-    if not is_far.any():
+    reach = FAR / EXTENT * side
+    if not len(read.x) or max(read.x.max() - box.left, box.left - read.x.min(), read.y.max() - box.low,
+                              box.low - read.y.min()) <= reach:
         return read
+    is_far = (np.abs(read.x - box.left) > reach) | (np.abs(read.y - box.low) > reach)
     far = {*np.unique(owners(read.counts)[owners(read.sizes)[is_far]]).tolist()}
     edges = (box.left - MARGIN * side, box.low - MARGIN * side, box.right + MARGIN * side, box.high + MARGIN * side)
     own = [cut(shape or b"", edges) if place in far else shape for place, shape in enumerate(shapes)]
@@ -77,46 +80,59 @@ def cut(shape: bytes, edges: tuple[float, ...]) -> bytes | None:
     left, low, right, high = edges
     corners = ((left, low), (right, low), (right, high), (left, high), (left, low))
     frame = ogr.CreateGeometryFromWkt(f"POLYGON(({', '.join(f'{x} {y}' for x, y in corners)}))")
-    try:
-        found = ogr.CreateGeometryFromWkb(shape).Buffer(0).Intersection(frame)
-    except (RuntimeError, AttributeError):
-        return None
-    return None if found is None else bytes(found.ExportToWkb())
+    found = ogr.CreateGeometryFromWkb(shape)
+    for is_to_be_valid in (False, True):  # where it crosses itself, its even-odd inside
+        with contextlib.suppress(RuntimeError, AttributeError):
+            own = found.MakeValid() if is_to_be_valid else found
+            return bytes(own.Intersection(frame).ExportToWkb())
+    return None
 
 
 def dots(read: Shapes, box: Square, extent: int) -> tuple[Numbers, Numbers, Numbers]:
     """Rings in the numbers of a tile: their points, of each ring how many, of each feature how many rings. A point that
     is the one after it goes, and so does a ring of less than three. Outer rings turn as the standard has it."""
     scale = extent / (box.right - box.left)
-    at = np.rint(np.stack([read.x - box.left, box.high - read.y], 1) * scale).astype(np.int64)
-    ring = owners(read.sizes)
-    stays = (at != at[after_of(read.sizes)]).any(1)
-    sizes = np.bincount(ring[stays], minlength=len(read.sizes))
+    at = np.rint(np.stack([read.x - box.left, box.high - read.y]) * scale).astype(np.int32)
+    if not len(read.sizes):
+        return at, read.sizes, read.counts
+    stays = (at != rolled(at, read.sizes)).any(0)
+    sizes = np.add.reduceat(stays, offsets(read.sizes)[:-1], dtype=np.int64)
     good = sizes > 2
-    points, sizes = at[stays & good[ring]], sizes[good]
+    points, sizes = at[:, stays & np.repeat(good, read.sizes)], sizes[good]
     counts = np.bincount(owners(read.counts)[good], minlength=len(read.counts))
-    begins, number = offsets(sizes)[:-1], np.arange(len(points))
-    after = points[after_of(sizes)]
-    twice = np.add.reduceat(points[:, 0] * after[:, 1] - after[:, 0] * points[:, 1], begins) if len(points) else begins
-    is_back = np.repeat((twice < 0) == read.is_outer[good], sizes)
-    return points[np.where(is_back, np.repeat(2 * begins + sizes - 1, sizes) - number, number)], sizes, counts
+    if not len(sizes):
+        return points, sizes, counts
+    begins, (x, y), (next_x, next_y) = offsets(sizes)[:-1], points.astype(np.int64), rolled(points, sizes)
+    is_back = (np.add.reduceat(x * next_y - next_x * y, begins) < 0) == read.is_outer[good]
+    order = np.arange(points.shape[1])
+    back = np.repeat(is_back, sizes)
+    order[back] = (np.repeat(2 * begins + sizes - 1, sizes) - order)[back]
+    return points[:, order], sizes, counts
+
+
+def rolled(points: Numbers, sizes: Numbers) -> Numbers:
+    """Of each point the one after it, round its ring."""
+    begins, found = offsets(sizes), np.roll(points, -1, axis=1)
+    found[:, begins[1:] - 1] = points[:, begins[:-1]]
+    return found
 
 
 def features(fids: Numbers, tags: Numbers | None, points: Numbers, sizes: Numbers, counts: Numbers) -> bytes:
     """The features of a layer. All of it is varints: of each feature a head, and of each ring MOVE, x, y, LINE, x, y ..
     and CLOSE, where x and y are steps from the point before."""
     begins, firsts = offsets(sizes)[:-1], offsets(counts)[:-1]  # of rings among points, of features among rings
-    steps = np.diff(points, axis=0, prepend=0)
-    steps[begins[firsts]] = points[begins[firsts]]
-    zigzag = (steps << 1) ^ (steps >> 63)
+    steps = np.diff(points, axis=1, prepend=0)
+    steps[:, begins[firsts]] = points[:, begins[firsts]]
+    zigzag = (steps << 1) ^ (steps >> 31)
     middle = [] if tags is None else [TAGS, 2, 0, tags]
     head = [0x12, 0, ID, fids, *middle, KIND, POLYGON, GEOMETRY, 0]
     spans = 2 * sizes + 3
     at = offsets(spans)[:-1] + len(head) * (owners(counts) + 1)  # where each ring begins
-    values: Numbers = np.empty(len(head) * len(fids) + int(spans.sum()), np.int64)
-    place = np.repeat(at + 2 - 2 * begins, sizes) + 2 * np.arange(len(points))
+    is_small = int(fids.max()) < 2**31
+    values: Numbers = np.empty(len(head) * len(fids) + int(spans.sum()), np.int32 if is_small else np.int64)
+    place = np.repeat(at + 2 - 2 * begins, sizes) + 2 * np.arange(points.shape[1])
     place[begins] -= 1
-    values[place], values[place + 1] = zigzag[:, 0], zigzag[:, 1]
+    values[place], values[place + 1] = zigzag
     values[at], values[at + 3], values[at + spans - 1] = MOVE, (sizes - 1) << 3 | LINE, CLOSE
     heads = at[firsts] - len(head)
     for number, one in enumerate(head):
@@ -132,7 +148,7 @@ def features(fids: Numbers, tags: Numbers | None, points: Numbers, sizes: Number
 
 def lengths(values: Numbers) -> Numbers:
     """The bytes of numbers as varints."""
-    found: Numbers = np.ones(len(values), np.int64)
+    found: Numbers = np.ones(len(values), np.int32)
     for shift in range(7, int(values.max(initial=0)).bit_length(), 7):
         found += values >> shift > 0
     return found
@@ -142,10 +158,11 @@ def varints(values: Numbers, wide: Numbers) -> bytes:
     """Numbers as varints of so many bytes."""
     begins = offsets(wide)
     out: Numbers = np.empty(int(begins[-1]), np.uint8)
-    for number in range(int(wide.max(initial=0))):
-        some = np.flatnonzero(wide > number)
-        part = values[some] >> (7 * number)
-        out[begins[some] + number] = (part & 127) | (part > 127) << 7
+    at, part = begins[:-1], values
+    while len(part):
+        more = part > 127
+        out[at] = part & 127 | more << np.uint8(7)
+        at, part = at[more] + 1, part[more] >> 7
     made: bytes = out.tobytes()
     return made
 
