@@ -35,6 +35,7 @@ from .systems import Systems, Unprojected, by_pyproj
 from .usual import LEAFLET, LOOPBACK
 
 PR_SET_PDEATHSIG = 1  # of prctl(2)
+ENDING = 10.0  # seconds in which a refresh under way may come to its end
 PATIENCE = 300.0
 """How many seconds a session waits for a reply before it is late."""
 
@@ -154,6 +155,9 @@ def refreshing(register: str, program: str | None) -> Iterator[None]:
         yield
     finally:
         watch.terminate()
+        with contextlib.suppress(subprocess.TimeoutExpired):
+            watch.wait(ENDING)
+        watch.kill()  # what it has not written is pending again
         watch.wait()
 
 
