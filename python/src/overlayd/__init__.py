@@ -1,5 +1,5 @@
 """Exact overlays of polygon layers: a client of overlay_live, maps in and out of its stores, and a front; and functions
-for GeoDataFrames: overlay, pairs, check, derive, dissolve, clip (api/).
+for GeoDataFrames: overlay, pairs, check, derive, dissolve, clip, and partitioned for what Dask has in parts (api/).
 """
 
 from typing import Any

@@ -14,7 +14,7 @@ stand without geopandas, as for QGIS.
 import importlib
 
 NAMES = {"overlay": "overlaying", "pairs": "pairing", "check": "checking", "derive": "deriving",
-         "dissolve": "dissolving", "clip": "clipping"}
+         "dissolve": "dissolving", "clip": "clipping", "partitioned": "partitions"}
 
 
 def named(name: str) -> object:

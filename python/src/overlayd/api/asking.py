@@ -15,7 +15,7 @@ from ..program_files import found_program
 FEATURES = "overlay_features"
 VARIABLE = "OVERLAY_FEATURES"  # names the program, where it is not at its place
 UNREADABLE, NO_OUTLINES = 76, 84  # faults of a block
-GridSize = float | str | Fraction | None
+GridSize = float | str | Fraction | Grid | None
 
 
 WORDS = {UNREADABLE: "the expression cannot be read", NO_OUTLINES: "this overlay_features makes no outlines"}
@@ -50,8 +50,8 @@ def program_of(named: str | None) -> str:
 
 def grid_of(size: GridSize, unit: Unit) -> Grid:
     """The grid of a size in units of the maps, as 0.001 or "1/3"; the default one where none is said."""
-    if size is None:
-        return Grid(unit=unit)
+    if size is None or isinstance(size, Grid):
+        return size or Grid(unit=unit)
     try:
         exact = Fraction(size if isinstance(size, str | Fraction) else repr(float(size)))
     except (ValueError, ZeroDivisionError):

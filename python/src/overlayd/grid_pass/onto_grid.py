@@ -28,6 +28,7 @@ class Noding(enum.Enum):
 
     NEVER = "never"  # rounding and bends alone
     WHERE_MOVED = "where moved"  # where the grid moves or bends something
+    MOVED = "moved"  # as something is moved or bent, in another part of the maps
     ASKED = "asked"  # also where it does not: then with wide pixels, for corners that the map's maker rounded
 
 
@@ -97,7 +98,7 @@ def onto_grid(maps: Sequence[Rings], factor: Fraction, noding: Noding = Noding.W
             fault.map = number
             raise
     moves = any(one.is_moved() for one in placed)
-    if noding is not Noding.ASKED and not moves and not any(one.is_long() for one in placed):
+    if noding not in (Noding.ASKED, Noding.MOVED) and not moves and not any(one.is_long() for one in placed):
         return [rounded(one) for one in placed]
     if noding is Noding.NEVER:
         return [snapped(one, None) for one in placed]

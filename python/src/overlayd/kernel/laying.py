@@ -41,11 +41,12 @@ class MapFault(Exception):
 @dataclass(frozen=True)
 class Grid:
     """Which grid is asked for: so many units for one of the maps', or the default one of maps in some unit of length;
-    and whether corners are taken into steps that they lie on."""
+    whether corners are taken into steps that they lie on; and of maps in parts what lies beside, whose corners are."""
 
     factor: Fraction | None = None
     unit: Unit = Unit.UNKNOWN
     noding: Noding = Noding.WHERE_MOVED
+    beside: Sequence[Column] = ()
 
 
 @dataclass(frozen=True)
@@ -78,11 +79,11 @@ class Laid:
 
 def lay(columns: Sequence[Column], grid: Grid = Grid()) -> Laid:
     """Maps on the grid that is asked for, or on their default one."""
-    read = [shapes_of(number, column) for number, column in enumerate(columns)]
+    read = [shapes_of(number, column) for number, column in enumerate([*columns, *grid.beside])]
     choice = None if grid.factor is not None else default_of(read, grid.unit)
     factor = grid.factor or (Fraction(1) if choice is None else choice.factor())
     try:
-        done = onto_grid([Rings(one.x, one.y, one.sizes) for one in read], factor, grid.noding)
+        done = onto_grid([Rings(one.x, one.y, one.sizes) for one in read], factor, grid.noding)[:len(columns)]
     except BeyondRange as fault:
         raise too_far(read[fault.map], fault) from None
     maps = [of_rings(one.rings.x, one.rings.y, one.rings.sizes, own.counts) for one, own in zip(done, read)]
