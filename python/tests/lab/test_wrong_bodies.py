@@ -198,6 +198,14 @@ def test_trials() -> None:
                  f"fn one::{MADE}: not proved; it stands on what antt refuses\nonly=1 holes=1\n")
         found = refusals.read(lines, [], set()).refusal(frozenset([MADE]))
         assert found and (found.kind, found.goal) == (kind, "returns-clause-a" if found.is_meant else "?"), found
+    # A check past holes names the lemma instead.
+    stands = (f"fn one::{MADE}: not proved; it stands on `Rattle.one.proofs.Laws.nested`, `Rattle.one.proofs.Laws.of`,"
+              " which antt refuses\nonly=1 holes=0\n")
+    for said, goal in (("expected type `x`, but this has type `y`", "nested"), ("record `x` has no field `y`", None)):
+        read = refusals.read(f"./proofs/Laws.antt:2:8: error: `nested`: {said}\n{stands}", [], set())
+        found = read.refusal(frozenset([MADE]))
+        assert (found and (found.is_meant, refusals.manner_of(found.kind), found.goal)) == (
+            goal and (True, refusals.AT_WRITTEN, goal)), found
 
 
 def test_controls() -> None:

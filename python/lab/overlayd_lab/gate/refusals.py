@@ -1,12 +1,12 @@
 """What a check says of the functions of a crate: which are refused, and at which goal.
 
 A wrong body is refused for its meaning where a goal has no proof: a clause, an invariant, a condition of what is
-called. `Shown to be false` stands where the prover found and checked values at which the goal fails, so that no proof
-closes it; `at its written proof` where there was one that was written for the text as it is: whether the goal could be
-proved otherwise, that does not show; nor does `at a limit of the search`, where the prover gave up. Nothing is known of
-the contract where it only finds that a written proof names what the edit has taken away (`a name that is gone`), that
-an operation may go wrong, or that a loop may not end; but where the name of an edit says that its operation may go
-wrong, that is its meaning (`edits.py`).
+called; or a lemma on which the proof stands, where the edit changes a definition. `Shown to be false` stands where the
+prover found and checked values at which the goal fails, so that no proof closes it; `at its written proof` where there
+was one that was written for the text as it is: whether the goal could be proved otherwise, that does not show; nor does
+`at a limit of the search`, where the prover gave up. Nothing is known of the contract where it only finds that a
+written proof names what the edit has taken away (`a name that is gone`), that an operation may go wrong, or that a loop
+may not end; but where the name of an edit says that its operation may go wrong, that is its meaning (`edits.py`).
 """
 
 from __future__ import annotations
@@ -29,6 +29,8 @@ GONE = re.compile(r"has no field|is not in scope|has no `|was not admitted")
 LEMMA = re.compile(r"(?:\./)?proofs/\w+\.antt:\d+:\d+: error: (?P<said>.*)")
 CITED = re.compile(r"declarations? that depends? on `[^`]*`, which was (?:rejected|not admitted), w(?:as|ere) not"
                    r" checked: (?P<names>.*)")
+# What a check past holes says of a function in the place of that: it takes such a declaration by its signature.
+STANDS = re.compile(r"it stands on `(?:[^`]*\.)?(?P<lemma>[^`.]+)`(?:, `[^`]*`)*, which antt refuses")
 # What a record lacks, where antt goes on in another line.
 GOES_ON = re.compile(r"\n {2}(?=has no )")
 # What is lent out by a method can be written by the caller, and the type's invariant goes with it.
@@ -48,6 +50,7 @@ GONE_KIND = "a name that is gone"
 UNKNOWN_KIND = "nothing that is known"
 OPERATION_KIND = "an operation"
 END_KIND = "the end of a loop"
+LEMMA_KIND = "a lemma"
 UNMEANT = (GONE_KIND, UNKNOWN_KIND, OPERATION_KIND, END_KIND)
 WRITTEN = ", at its written proof"
 WRITTEN_SEARCH = ", at a search that is written down"
@@ -231,6 +234,8 @@ def read(output: str, known: list[functions.Function], changed: set[str]) -> Ver
             goals = re.findall(r"`([^`]+)`", sought["goals"]) if sought else []
             lined_goals = {said.goal for name, said in found if is_of(function["name"], name)}
             found += [(function["name"], Refusal(kind_of(goal), goal)) for goal in goals if goal not in lined_goals]
+            stands = STANDS.search(function["said"]) if by_lemmas else None
+            found += [(function["name"], Refusal(LEMMA_KIND + WRITTEN, stands["lemma"]))] if stands else []
     unread = next((line for line in lines if is_unread(line, changed) or STALE.search(line)), "")
     first = unread or next((line for line in lines if "error: " in line or "error[" in line), lines[-1])
     return Verdict(bool(REACHED.match(lines[-1])) and not unread, sayings, found, first)
