@@ -7,6 +7,7 @@ text. Here a request and an answer have an end, and what waitress refuses is rep
 from __future__ import annotations
 
 import contextlib
+import logging
 import socket
 from collections.abc import Callable
 from typing import Any
@@ -86,6 +87,7 @@ def server_of(front: Front, host: str, port: int, make_ends: Callable[[Any], End
         outbuf_high_watermark=1 << 30,  # an answer goes to a file, and its thread on, where the client is slow
         ident=None,
     )
+    logging.getLogger("waitress.queue").setLevel(logging.ERROR)  # that a question waits for a thread is no fault
     server.channel_class = Channel
     server.maintenance = make_ends(server)
     return server
