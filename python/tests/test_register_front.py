@@ -15,7 +15,7 @@ from pathlib import Path
 from typing import Any
 
 import pytest
-from osgeo import ogr
+from osgeo import gdal, ogr
 
 from overlayd.register.model import Must
 from overlayd.register.package import GeoPackage
@@ -345,3 +345,29 @@ def test_a_file_that_takes_the_place_of_another_is_opened(place: Place, tmp_path
     own.register.engine.close()
     copy.rename(own.path)
     assert client.get("/collections/parcels/items/1")["properties"] == {"nr": "new"}
+
+
+def test_gdal_and_owslib_read_a_register_by_its_front(place: Place, tmp_path: Path) -> None:
+    own, _ = place
+    assert Programs.features is not None
+    words = [*OVERLAY, "serve", str(own.path), "--port", "0", "--program", Programs.features]
+    run = subprocess.Popen(words, stdout=subprocess.PIPE, text=True, env=SOURCES)
+    assert run.stdout is not None
+    try:
+        address = run.stdout.readline().strip()
+        copy = str(tmp_path / "copy.gpkg")
+        done = subprocess.run(["ogr2ogr", "-t_srs", f"EPSG:{works.SYSTEM}", copy, f"OAPIF:{address}", "parcels"],
+                              capture_output=True, text=True, timeout=SECONDS, check=False)
+        assert (done.returncode, done.stderr) == (0, "")
+        store = gdal.OpenEx(copy)
+        found = {one["nr"]: one.GetGeometryRef().GetEnvelope() for one in store.GetLayer(0)}
+        assert found.keys() == {f"p{number}" for number in range(1, 7)}
+        assert found["p2"] == pytest.approx((works.EAST + 10, works.EAST + 20, works.NORTH, works.NORTH + 10), abs=1e-3)
+        owslib: Any = pytest.importorskip("owslib.ogcapi.features")
+        features = owslib.Features(address)
+        assert {*features.feature_collections()} == {"parcels", "zones", "overlay_result_pz", "overlay_violation"}
+        page = features.collection_items("parcels", limit=4)
+        assert (page["numberReturned"], features.collection_item("parcels", "3")["properties"]["nr"]) == (4, "p3")
+    finally:
+        run.terminate()
+        run.wait(timeout=SECONDS)

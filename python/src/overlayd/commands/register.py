@@ -120,7 +120,7 @@ def add(file: str, source: str, layers: tuple[str, ...], idents: tuple[str, ...]
     """Copies layers of another file into a register."""
     if file.startswith(PREFIX):
         raise Refused("layers come into PostGIS by ogr2ogr or shp2pgsql; then `overlay register adopt` takes them")
-    opened(file)
+    opened(file).engine.close()  # GDAL that opens a file as well takes SQLite's locks away from this process
     names = sources.copy(source, file, [*layers] or None)
     begun(file, names, None, idents_of(idents, names), True, say)
 
@@ -254,13 +254,20 @@ def audit(context: click.Context, file: str, part: int, program: str | None) -> 
     FILE, argument("date"), argument("target"), argument("layers", metavar="[LAYER...]", nargs=-1)])
 def past(file: str, date: str, target: str, layers: tuple[str, ...]) -> None:
     """Writes layers as they were at a time (2026-12-01, or 2026-12-01T10:00:00+01:00) into a new GeoPackage."""
+    if Path(target).exists():
+        raise Refused(f"{target} is there already")
+    register = opened(file)
+    names = [*(layers or register.layers())]
+    for name in names:
+        Past(register.engine, register.layer(name), moment(date))  # or refused
+    register.engine.close()  # as GDAL opens the file
+    for name in names:
+        sources.copy(file, target, [name], is_empty=True)
     register = opened(file)
     with register.engine.reading():
-        tables = [Past(register.engine, register.layer(name), moment(date)) for name in layers or register.layers()]
-        if Path(target).exists():
-            raise Refused(f"{target} is there already")
-        for one in tables:
-            click.echo(f"{one.layer.name}: {sources.write(file, one.layer.name, one.all(), target)} features")
+        for name in names:
+            items = Past(register.engine, register.layer(name), moment(date)).all()
+            click.echo(f"{name}: {sources.write(target, name, items)} features")
 
 
 @command.command(params=[FILE, argument("date")])

@@ -21,9 +21,10 @@ def layers_of(source: str) -> list[str]:
     return [file.GetLayer(number).GetName() for number in range(file.GetLayerCount())]
 
 
-def copy(source: str, target: str, names: list[str] | None = None, called: str | None = None) -> list[str]:
-    """Copies layers of a file into a GeoPackage, which is made where it is not there; what they are called there: as in
-    the file, or where it has one alone, as is said."""
+def copy(source: str, target: str, names: list[str] | None = None, called: str | None = None, is_empty: bool = False
+         ) -> list[str]:
+    """Copies layers of a file into a GeoPackage, which is made where it is not there, or their columns alone; what they
+    are called there: as in the file, or where it has one alone, as is said."""
     gdal, _ = modules()
     there, made = layers_of(source), []
     for name in names or there:
@@ -33,7 +34,8 @@ def copy(source: str, target: str, names: list[str] | None = None, called: str |
         if Path(target).is_file() and own in layers_of(target):
             raise Refused(f"{target} has a layer {own} already")
         options = gdal.VectorTranslateOptions(format="GPKG", accessMode="append" if Path(target).exists() else None,
-                                              layers=[name], layerName=own, geometryType="PROMOTE_TO_MULTI")
+                                              layers=[name], layerName=own, where="1 = 0" if is_empty else None,
+                                              geometryType=None if is_empty else "PROMOTE_TO_MULTI")
         try:
             gdal.VectorTranslate(target, source, options=options)
         except RuntimeError as fault:
@@ -42,15 +44,10 @@ def copy(source: str, target: str, names: list[str] | None = None, called: str |
     return made
 
 
-def write(file: str, name: str, items: Iterable[Item], target: str) -> int:
-    """Writes features of a layer of a database into a GeoPackage, with the layer's columns; how many they are."""
+def write(target: str, name: str, items: Iterable[Item]) -> int:
+    """Writes features into a layer of a GeoPackage; how many it has then."""
     gdal, ogr = modules()
-    options = gdal.VectorTranslateOptions(format="GPKG", accessMode="append" if Path(target).exists() else None,
-                                          layers=[name], where="1 = 0")
-    try:
-        store = gdal.VectorTranslate(target, file, options=options)
-    except RuntimeError as fault:
-        raise Refused(f"{target}: {fault}") from None
+    store = gdal.OpenEx(target, gdal.OF_VECTOR | gdal.OF_UPDATE)
     layer = store.GetLayerByName(name)
     layer.StartTransaction()
     for item in items:

@@ -1,0 +1,251 @@
+"""Are the tables of a register those that are worked out anew, and is nothing lost that was acknowledged?
+
+    /usr/bin/python3 -m overlayd_lab.trials.register_edits FEATURES [--edits N] [--stops N] [--kills N] [--parcels N]
+        [--database PG:WORDS] [--seed N]
+
+Random edits by SQL, OGR, fiona and the front, some of several features, beside `watch`, the front's own watch, and
+`refresh`; of these one after the other is killed (-9) after some edits. Each edit that is acknowledged is kept as the
+digest that its features have then. At each stop all layers are compared with these, and `audit` works all tables and
+violations out anew. FEATURES is the built overlay_features. --database: a database of PostGIS, whose layers parcels and
+zones are made anew, by GDAL. It ends with status 1 where something is lost or wrong.
+"""
+
+from __future__ import annotations
+
+import concurrent.futures
+import contextlib
+import importlib
+import importlib.util
+import json
+import multiprocessing
+import pathlib
+import random
+import signal
+import struct
+import subprocess
+import sys
+import tempfile
+import time
+import urllib.error
+import urllib.request
+from collections.abc import Callable, Iterable
+from typing import Any
+
+from osgeo import gdal, ogr
+from overlayd.kernel import Ask
+from overlayd.register.answers import Program
+from overlayd.register.auditing import audit
+from overlayd.register.beginning import engine_of, opened
+from overlayd.register.geojson import geometry_of
+from overlayd.register.tables import Item, Table
+from overlayd_lab import LAB, TOP
+from overlayd_lab.counting import Tries, Words
+
+gdal.UseExceptions()
+OVERLAY, LAYERS = ["/usr/bin/python3", str(TOP / "overlay")], ("parcels", "zones")
+KEPT = (("pairs", "pz", "parcels", "zones"), ("check", "shared", "parcels"), ("derive", "gaps", "zones - parcels"))
+RULES = (("parcels", "must not overlap"), ("parcels", "must not have gaps"))
+UTM = "<http://www.opengis.net/def/crs/EPSG/0/25832>"
+SECONDS = 600.0
+Written = list[tuple[str, int, str | None]]
+"""Features that an edit has written: layer, key, and digest where they are not gone."""
+
+
+def moved(draw: random.Random, shape: bytes) -> bytes:
+    """A polygon with one corner moved by up to 3 m, on the grid of a millimetre or off it."""
+    (ring,) = (geometry_of(shape) or {"coordinates": [[]]})["coordinates"][:1]
+    ring = ring[0] if isinstance(ring[0][0], list) else ring
+    place, off = draw.randrange(len(ring) - 1), draw.choice((0.0, 0.0, 0.0004))
+    dx, dy = (draw.randint(-3000, 3000) / 1000 + off for _ in "xy")
+    points = [(x + dx, y + dy) if at % (len(ring) - 1) == place else (x, y) for at, (x, y) in enumerate(ring)]
+    return struct.pack("<BIII", 1, 3, 1, len(points)) + b"".join(struct.pack("<2d", *one) for one in points)
+
+
+def by_gdal(words: str, name: str, fid: int, shape: bytes) -> None:
+    """Another shape of a feature, by OGR."""
+    store = gdal.OpenEx(words, gdal.OF_VECTOR | gdal.OF_UPDATE)
+    layer = store.GetLayerByName(name)
+    feature = layer.GetFeature(fid)
+    feature.SetGeometry(ogr.CreateGeometryFromWkb(shape))
+    layer.SetFeature(feature)
+
+
+def appended(words: str, name: str, geometry: object, values: dict[str, Any]) -> None:
+    """A new feature, by fiona."""
+    with importlib.import_module("fiona").open(words, "a", layer=name) as sink:
+        sink.write({"type": "Feature", "properties": values, "geometry": geometry})
+
+
+class Trial:
+    """A register, what is known of its features, and those that edit it or work beside it."""
+
+    def __init__(self, words: str, features: str, seed: int, tries: Tries) -> None:
+        self.words, self.features, self.draw, self.tries = words, features, random.Random(seed), tries
+        self.engine, self.register = engine_of(words, writes_layers=True), opened(words)
+        self.tables = {name: Table(self.engine, self.register.layer(name)) for name in LAYERS}
+        self.known = {(name, fid): etag for name in LAYERS for fid, etag in self.etags(name).items()}
+        self.beside: dict[str, subprocess.Popen[str]] = {}
+        # Of a file that GDAL closes the process loses all of SQLite's locks: so GDAL works in another one.
+        self.gdal = concurrent.futures.ProcessPoolExecutor(1, multiprocessing.get_context("spawn"))
+        self.address, self.counts = "", dict.fromkeys(("sql", "ogr", "fiona", "front", "refused", "kills"), 0)
+
+    def etags(self, name: str) -> dict[int, str]:
+        return {one.fid: one.etag() for one in self.tables[name].page(-1, 10**9)}
+
+    def begin(self, what: str) -> None:
+        """A process beside: the front, a watch, or one refresh."""
+        own = ["serve", self.words, "--writable", "--port", "0"] if what == "front" else ["register", what, self.words]
+        self.beside[what] = subprocess.Popen([*OVERLAY, *own, "--program", self.features], text=True,
+                                             stdout=subprocess.PIPE, stderr=subprocess.DEVNULL)
+        if what == "front":
+            line = self.beside[what].stdout
+            assert line is not None
+            self.address = line.readline().strip()
+
+    def kill(self) -> None:
+        """Ends a process beside at any moment, and begins it anew."""
+        what = self.draw.choice(("front", "watch", "refresh"))
+        if what == "refresh":
+            self.begin(what)
+            time.sleep(self.draw.random())
+        self.beside[what].send_signal(signal.SIGKILL)
+        self.beside[what].wait()
+        self.counts["kills"] += 1
+        if what != "refresh":
+            self.begin(what)
+
+    def feature(self) -> tuple[str, Item | None]:
+        name = self.draw.choice(("parcels", "parcels", "zones"))
+        ((low, high),) = self.engine.ask(f"SELECT min(fid), max(fid) FROM {name}")
+        found = self.tables[name].page(self.draw.randint(low - 1, high - 1), 1)
+        return name, found[0] if found and found[0].shape else None
+
+    def by_sql(self) -> Written:
+        name, one = self.feature()
+        table, what = self.tables[name], self.draw.random()
+        if one is None or one.shape is None:
+            return []
+        if what < 0.1:
+            table.delete(one.fid)
+            return [(name, one.fid, None)]
+        shape = moved(self.draw, one.shape)
+        if what < 0.2:
+            return [(name, fid, table.item(fid).etag()) for fid in (table.insert(None, shape, one.values),)]
+        table.update(one.fid, shape, {})
+        return [(name, one.fid, table.item(one.fid).etag())]
+
+    def by_ogr(self) -> Written:
+        name, one = self.feature()
+        if one is None or one.shape is None:
+            return []
+        self.gdal.submit(by_gdal, self.words, name, one.fid, moved(self.draw, one.shape)).result()
+        return [(name, one.fid, self.tables[name].item(one.fid).etag())]
+
+    def by_fiona(self) -> Written:
+        name, one = self.feature()
+        if one is None or one.shape is None:
+            return []
+        geometry = geometry_of(moved(self.draw, one.shape))
+        self.gdal.submit(appended, self.words, name, geometry, dict(one.values)).result()
+        ((fid,),) = self.engine.ask(f"SELECT max(fid) FROM {name}")
+        return [(name, fid, self.tables[name].item(fid).etag())]
+
+    def by_front(self) -> Written:
+        """A transaction of one to three changes of different features; none where a rule refuses it."""
+        found = dict[tuple[str, int], Item]()
+        for _ in range(self.draw.choice((1, 1, 3))):
+            name, one = self.feature()
+            if one is not None:
+                found[name, one.fid] = one
+        changes = [{"update": name, "id": fid, "etag": one.etag(), "feature": {
+            "type": "Feature", "geometry": geometry_of(moved(self.draw, one.shape or b""))}}
+            for (name, fid), one in found.items()]
+        asked = urllib.request.Request(f"{self.address}transaction", json.dumps({"changes": changes}).encode(),
+                                       {"Content-Type": "application/json", "Content-Crs": UTM})
+        try:
+            with urllib.request.urlopen(asked, timeout=SECONDS) as answer:
+                told = json.load(answer)
+        except urllib.error.HTTPError as fault:
+            self.tries.that(fault.code in (409, 422), f"status {fault.code}") if fault.code not in (409, 422) else None
+            self.counts["refused"] += 1
+            return []
+        return [(one["collection"], one["id"], one["etag"]) for one in told["features"]]
+
+    def edit(self) -> None:
+        """One edit by one of those that write."""
+        ways: dict[str, Callable[[], Written]] = {"sql": self.by_sql, "ogr": self.by_ogr, "front": self.by_front}
+        if importlib.util.find_spec("fiona") and not self.words.startswith("PG:"):
+            ways["fiona"] = self.by_fiona
+        way = self.draw.choices([*ways], [6 if name == "sql" else 1 if name == "fiona" else 2 for name in ways])[0]
+        written = ways[way]()
+        self.counts[way] += bool(written)
+        for name, fid, etag in written:
+            if etag is None:
+                self.known.pop((name, fid), None)
+            else:
+                self.known[name, fid] = etag
+
+    def stop(self, done: int) -> None:
+        """Waits until nothing is pending, and compares."""
+        end = time.monotonic() + SECONDS
+        while self.engine.ask("SELECT 1 FROM overlay_pending LIMIT 1") and time.monotonic() < end:
+            time.sleep(0.2)
+        now = {(name, fid): etag for name in LAYERS for fid, etag in self.etags(name).items()}
+        self.tries.that(now == self.known, f"{done} edits: {len(now)} features as acknowledged")
+        program = Program(Ask(self.features), self.register.state().factor)
+        found = audit(opened(self.words), program)
+        self.tries.that(all(one.is_right() for one in found), f"{done} edits: " + "; ".join(map(str, found)))
+
+    def end(self) -> None:
+        self.gdal.shutdown()
+        for one in self.beside.values():
+            one.terminate()
+            one.wait()
+
+
+def made(folder: pathlib.Path, database: str | None, parcels: int, features: str) -> str:
+    """A register of maps of land; its name."""
+    subprocess.run(["/usr/bin/python3", str(LAB / "map_making.py"), str(parcels), str(parcels // 15), str(folder)],
+                   check=True, stdout=subprocess.DEVNULL)
+    words, files = database or str(folder / "land.gpkg"), {name: folder / f"{name}.gpkg" for name in LAYERS}
+
+    def run(*more: object) -> None:
+        subprocess.run([*OVERLAY, "register", *map(str, more)], check=True, stdout=subprocess.DEVNULL)
+
+    for name, file in files.items():
+        options: dict[str, Any] = {"layerCreationOptions": ["FID=fid", "GEOMETRY_NAME=geom"], "layerName": name}
+        gdal.VectorTranslate(words, str(file), accessMode="overwrite" if database else "append" if pathlib.Path(
+            words).exists() else None, format="PostgreSQL" if database else "GPKG", **options)
+    run("adopt", words, *LAYERS, "--grid", "0.001")
+    for kind, name, *of in KEPT:
+        run("keep", kind, words, name, *of, "--program", features)
+    for layer, must in RULES:
+        run("rule", words, layer, must, "--program", features)
+    return words
+
+
+def main(given: Iterable[str] | None = None) -> int:
+    words = Words(__doc__)
+    words.add_argument("features")
+    for name, usual in (("edits", 10_000), ("stops", 20), ("kills", 500), ("parcels", 3000), ("seed", 1)):
+        words.add_argument(f"--{name}", type=int, default=usual)
+    words.add_argument("--database")
+    asked, tries = words.parse_args(None if given is None else [*given]), Tries()
+    with tempfile.TemporaryDirectory() as folder, contextlib.ExitStack() as ending:
+        one = Trial(made(pathlib.Path(folder), asked.database, asked.parcels, asked.features), asked.features,
+                    asked.seed, tries)
+        ending.callback(one.end)
+        for what in ("front", "watch"):
+            one.begin(what)
+        for done in range(1, asked.edits + 1):
+            one.edit()
+            if asked.kills and done % max(1, asked.edits // asked.kills) == 0:
+                one.kill()
+            if done % max(1, asked.edits // asked.stops) == 0:
+                one.stop(done)
+        print(", ".join(f"{count} {name}" for name, count in one.counts.items()))
+    return tries.end()
+
+
+if __name__ == "__main__":
+    sys.exit(main())
