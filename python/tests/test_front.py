@@ -15,7 +15,7 @@ import pytest
 from overlayd.geometry.plane import Box
 from overlayd.grid import limits
 from overlayd.store.world import rings as rings_of
-from overlayd.web.features_api import PAGE
+from overlayd.web.ogc_pages import PAGE
 from overlayd.web.views import View
 from . import testing
 from .test_shapes import Place, meets

@@ -61,6 +61,7 @@ def test_pairs_are_those_with_a_common_part(a: list[Box], b: list[Box], touching
                                                       if i < j and is_pair(one, other)]
 
 
+@settings(deadline=None)
 @given(maps, drawn.data())
 def test_a_part_of_a_map_has_its_features_and_boxes(given_map: list[list[Way]], data: drawn.DataObject) -> None:
     features = map_of(given_map)

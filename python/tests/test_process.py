@@ -19,7 +19,7 @@ import pytest
 
 from overlayd.commands import serve as overlay_web
 from overlayd.program import Server
-from overlayd.web.features_api import PAGE
+from overlayd.web.ogc_pages import PAGE
 from overlayd.words import words_of
 
 from . import testing

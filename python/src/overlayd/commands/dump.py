@@ -42,9 +42,9 @@ def write(layers: list[Layer], store: pathlib.Path, output: pathlib.Path) -> Non
         if scale.is_file():
             of_layers = replace(scales.read(scale), layers=(digests(Layers.of(layers).base),))
             texts[output.with_name(output.stem + ".scale.json")] = of_layers.text().encode()
-        kept = [path for path in texts if path != output and is_one_of(path, [scale])]
+        kept = [path for path in texts if path != output and keeping.is_same(path, scale)]
         for path in texts:
-            if is_store(path) or (path not in kept and is_one_of(path, [store, scale])):
+            if is_store(path) or (path not in kept and any(keeping.is_same(path, one) for one in (store, scale))):
                 raise Unusable(f"--output: {path} is a store, or is read here, and is not written over")
         keeping.check_apart(output, [store])
         keeping.check(output, {path: text for path, text in texts.items() if path != output and path not in kept})
@@ -55,11 +55,6 @@ def write(layers: list[Layer], store: pathlib.Path, output: pathlib.Path) -> Non
         raise Unusable(str(fault)) from fault
     except OSError as fault:
         raise Unusable(ending.fault_text(fault.filename or output, fault)) from fault
-
-
-def is_one_of(path: pathlib.Path, others: list[pathlib.Path]) -> bool:
-    """Whether a path leads to one of some files, by whatever name or link."""
-    return any(path.exists() and other.exists() and path.samefile(other) for other in others)
 
 
 @subcommand(__doc__, argument("store", FILE), PROGRAM,

@@ -39,7 +39,7 @@ def check_targets(paths: list[pathlib.Path], inputs: list[pathlib.Path]) -> None
         if is_store(path):
             raise Stopped(f"--output: {path} is a store, which a script is not written over")
         for given in inputs:
-            if path.exists() and given.exists() and path.samefile(given):
+            if keeping.is_same(path, given):
                 raise Stopped(f"--output: {path} is the input {given}, which is not written over")
 
 

@@ -32,6 +32,7 @@ from ..maps.asking import AskFault, Doing, Shown
 from ..maps.engines import TasksLeft
 from ..maps.tasks import stamp
 from ..program_files import FEATURES, found_program
+from ..store.keeping import is_same
 from ..store.opening import is_store
 from ..words import ABOVE_ZERO, FILE, Command, Words, flag, option, program, subcommand
 
@@ -267,7 +268,7 @@ def is_one(path: pathlib.Path, other: pathlib.Path) -> bool:
     """Whether two names are of one file, which need not be there yet. All may write to one pipe or device."""
     if path.exists() and not path.is_file():
         return False
-    return path.resolve() == other.resolve() or (path.exists() and other.exists() and path.samefile(other))
+    return is_same(path, other)
 
 
 def program_of(given: dict[str, Any]) -> str:

@@ -8,18 +8,15 @@ from __future__ import annotations
 
 import re
 import urllib.parse
-from collections.abc import Sequence
 from typing import Any
 
 from flask import Response, g, request
 
 from .layer_store import LayerStore
-from .ogc_pages import CRS, ITEM_WORDS, LAYER, PAGE, Asked, OgcPages
+from .ogc_pages import CRS, ITEM_WORDS, LAYER, OgcPages
 from .pages import GEOJSON, Problem, link, page, sent
-from .systems import Item, Placed, Systems
+from .systems import Placed, Systems
 from .views import View
-
-__all__ = ["CRS", "ITEM_WORDS", "LAYER", "PAGE", "FeaturesApi"]
 
 
 class FeaturesApi(OgcPages):
@@ -30,11 +27,8 @@ class FeaturesApi(OgcPages):
     @page("GET", "/collections", "getCollections", "all collections", "collections", slow=True)
     def collections(self) -> Response:
         with self.store.view() as view:
-            found = self._collections(view)
+            found = [self._described(view, name) for name in view.layers]
         return sent({"links": [link(f"{g.root}/collections", "self")], "collections": found})
-
-    def _collections(self, view: View) -> list[dict[str, object]]:
-        return [self._described(view, name) for name in view.layers]
 
     @page("GET", LAYER, "describeCollection", "a collection", "collection", slow=True)
     def collection(self, name: str) -> Response:
@@ -55,17 +49,14 @@ class FeaturesApi(OgcPages):
     @page("GET", f"{LAYER}/items", "getFeatures", "items of a collection", "featureCollection", *ITEM_WORDS,
           kind=GEOJSON, slow=True)
     def items(self, name: str, revision: str | None, **words: Any) -> Response:
+        """The items that are asked for, as many as a page has, with links to the next page and the one before."""
         asked = self._asked(**words)
         joined = self.store.joined(name, revision)
-        return self._page(name, joined.revision, joined.features, asked)
-
-    def _page(self, name: str, revision: str, items: Sequence[Item], asked: Asked) -> Response:
-        """The items that are asked for, as many as a page has, with links to the next page and the one before."""
-        limit, offset, given = asked.limit, asked.offset, request.args.to_dict()
+        revision, limit, offset, given = joined.revision, asked.limit, asked.offset, request.args.to_dict()
         headers = self._headers(revision, asked.system)
         if request.if_none_match.contains_weak(revision):
             return Response(status=304, headers=headers)
-        matched = [one for one in items if asked.meets is None or asked.meets(one)]
+        matched = [one for one in joined.features if asked.meets is None or asked.meets(one)]
         chosen = matched[offset : offset + limit]
         at = f"{g.root}/collections/{name}"
         links = [
@@ -93,11 +84,8 @@ class FeaturesApi(OgcPages):
         joined = self.store.joined(name)
         if not re.fullmatch(r"[0-9]{1,9}", identity) or not 1 <= int(identity) <= len(joined.features):
             raise Problem(404, f"{name} has no item {identity}")
-        return self._item(name, identity, joined.revision, joined.features[int(identity) - 1], crs)
-
-    def _item(self, name: str, identity: str, revision: str, item: Item, crs: str | None) -> Response:
         at, system = f"{g.root}/collections/{name}", self._system("crs", crs)
-        made = Placed(item, self.systems, system).geojson()
-        made["revision"] = revision
+        made = Placed(joined.features[int(identity) - 1], self.systems, system).geojson()
+        made["revision"] = joined.revision
         made["links"] = [link(f"{at}/items/{identity}", "self", GEOJSON), link(at, "collection")]
-        return sent(made, GEOJSON, headers=self._headers(revision, system))
+        return sent(made, GEOJSON, headers=self._headers(joined.revision, system))

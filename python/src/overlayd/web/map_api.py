@@ -12,8 +12,8 @@ from ..files import coordinate_systems
 from ..grid import limits
 from ..program import LARGEST_BATCH, NAME, OUT_OF_RANGE, Piece, Point, Refused, Session
 from ..store.world import text_of
-from .features_api import LAYER
 from .layer_store import LayerStore
+from .ogc_pages import LAYER
 from .pages import POINT, Problem, Word, body, page, sent
 from .systems import Systems
 from .views import Busy
