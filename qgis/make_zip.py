@@ -4,8 +4,7 @@
     qgis/make_zip.py OUT [PROGRAM]          OUT: a folder of plugins, or NAME.zip; PROGRAM: a built overlay_features
 
 The parts of the package overlayd that it stands on go to exactoverlay/ext/overlayd, so that another version of the
-package, or of another plugin, is none of its business in QGIS's one interpreter.
-"""
+package, or of another plugin, is none of its business in QGIS's one interpreter."""
 
 from __future__ import annotations
 

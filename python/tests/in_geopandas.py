@@ -2,8 +2,7 @@
 
     OVERLAY_FEATURES=.. python3 -m pytest -p tests.in_geopandas --pyargs geopandas.tests.test_overlay
 
-Points and lines are left to geopandas, as its tests have them too. Columns that only overlayd has are taken away.
-"""
+Points and lines are left to geopandas, as its tests have them too. Columns that only overlayd has are taken away."""
 
 from __future__ import annotations
 

@@ -70,8 +70,7 @@ def halved(count: int) -> Rings:
 
 def area(cell: list[Place]) -> float:
     (left, low), *_ = cell
-    return sum((a - left) * (d - low) - (c - left) * (b - low)
-               for (a, b), (c, d) in zip(cell, cell[1:] + cell[:1])) / 2
+    return sum((a - left) * (d - low) - (c - left) * (b - low) for (a, b), (c, d) in zip(cell, cell[1:] + cell[:1])) / 2
 
 
 def halves(cell: list[Place], draw: random.Random) -> list[list[Place]]:

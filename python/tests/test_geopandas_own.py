@@ -1,7 +1,6 @@
 """geopandas's own tests of overlay and sjoin, as Debian packages them, with overlayd's functions in their place.
 
-Debian has no data for some of its tests, which fail with geopandas itself: what it passes here is what is counted.
-"""
+Debian has no data for some of its tests, which fail with geopandas itself: what it passes here is what is counted."""
 
 from __future__ import annotations
 

@@ -47,8 +47,7 @@ class InTasks(InFolder):
 
     def words(self, seconds: str, engine: str = "several", deaths: str = "0") -> list[str]:
         """The call of a run in a process of its own."""
-        return [sys.executable, "-m", "tests.map_works", str(self.work), str(self.marks), seconds, engine,
-                deaths]
+        return [sys.executable, "-m", "tests.map_works", str(self.work), str(self.marks), seconds, engine, deaths]
 
     def begun(self, names: list[bytes] = NAMES, **run: object) -> TaskFolder:
         return tasks.begin(self.work, {"asks": "names", **run}, names)

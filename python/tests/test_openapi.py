@@ -1,7 +1,6 @@
 """Tests of the front's description: it is OpenAPI 3.0, and each page answers as its schema says.
 
-The rules of OpenAPI that are looked at are written down here; jsonschema says what is of a schema.
-"""
+The rules of OpenAPI that are looked at are written down here; jsonschema says what is of a schema."""
 
 from __future__ import annotations
 

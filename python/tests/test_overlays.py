@@ -37,8 +37,7 @@ def check_holes(test: unittest.TestCase, polygons: list[list[Ring]]) -> None:
             test.assertIs(min(round_it, key=lambda other: area_of_all([other[:1]])), polygon)
 
 
-def check(test: unittest.TestCase, layers: list[Any], inside: Callable[..., bool],
-          polygons: list[list[Ring]]) -> None:
+def check(test: unittest.TestCase, layers: list[Any], inside: Callable[..., bool], polygons: list[list[Ring]]) -> None:
     """Corners turn, no ring passes a place twice, areas are of their sign, and places have the right answer."""
     lists = [segments_of(rings) for rings in layers]
     check_holes(test, polygons)

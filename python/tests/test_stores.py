@@ -234,8 +234,7 @@ class OverStores(WithProgram):
         for text in ("", "#\n\n"):
             self.assertEqual(self.asked(which, store, "--points", self.file("none.txt", text)), (0, "", ""))
         edge = self.file("edge.txt", "105357.6 0\n105357.7 0\n")  # 2^20 / 10 + 500 is the last that is in range
-        self.assertEqual(self.asked(which, store, "--points", edge)[:2],
-                         (1, f"\nerror\t105357.7 0: {beyond}\n"))
+        self.assertEqual(self.asked(which, store, "--points", edge)[:2], (1, f"\nerror\t105357.7 0: {beyond}\n"))
 
 
 class ProgramsThatAreFound(InFolder):

@@ -1,7 +1,6 @@
 """QGIS without a screen, with the provider in it: OVERLAY_FEATURES=.. /usr/bin/python3 -m pytest qgis/tests
 
-python/tests/test_qgis.py runs these in a process of their own, as QGIS keeps what it has loaded.
-"""
+python/tests/test_qgis.py runs these in a process of their own, as QGIS keeps what it has loaded."""
 
 from __future__ import annotations
 

@@ -1,6 +1,5 @@
 """What the desktop of QGIS does by --code: it checks the parcels of examples/maps with the plugin of its profile, shows
-the result, writes a picture of its window, and ends.
-"""
+the result, writes a picture of its window, and ends."""
 
 from __future__ import annotations
 

@@ -1,6 +1,5 @@
 """Ends a tool: with one line where something went wrong that it does not foresee, or standard output cannot be written;
-quietly where the reader of it went away, or who called it has stopped it.
-"""
+quietly where the reader of it went away, or who called it has stopped it."""
 
 import contextlib
 import errno

@@ -19,8 +19,7 @@ reply that does not come in time, as TimeoutError, and its session is lent again
 another line, or none, is a `ValueError` before anything is sent.
 
 It needs the standard library alone, and may be handed on as this one file. Rings, coordinates of the world and features
-are those of overlayd.store.world.
-"""
+are those of overlayd.store.world."""
 
 from __future__ import annotations
 
@@ -118,8 +117,7 @@ def layer_of(line: str) -> Layer:
 class Reply(NamedTuple):
     """A reply as it came: its first line, and the bytes of the lines after it, each with its line feed.
 
-    All but refusal raise `Refused` where the request was refused.
-    """
+    All but refusal raise `Refused` where the request was refused."""
 
     first: str
     rest: bytes = b""
@@ -178,8 +176,7 @@ class Wire:
     """The two files of a session, each with a descriptor; each read is waited for at most so many seconds.
 
     What is posted goes out while replies come in: a wait for either ends when the other can go on. So a program that
-    stops at a full pipe of replies never meets a client that stops at a full pipe of lines.
-    """
+    stops at a full pipe of replies never meets a client that stops at a full pipe of lines."""
 
     def __init__(self, lines: BinaryIO, replies: BinaryIO, timeout: float | None) -> None:
         self.files, self.timeout = (lines, replies), timeout
@@ -358,8 +355,7 @@ class Session:
         Requests are taken while fewer than so many bytes of them have no reply, so they may come from a generator that
         goes on for ever; one that needs an earlier reply must not. Until the last reply is read nothing else can be
         asked. Who leaves sooner, or whose requests raise, closes the session; a reply that does not come in time makes
-        it late.
-        """
+        it late."""
         self._begin()
         self._ahead = True
         self._wire.widen(ahead)
@@ -437,8 +433,7 @@ class Session:
 
         A session sees versions in their order. So where WAIT gives one number before and after the other questions,
         they were all answered at that version. Where another session has changed something in between, all is asked
-        again.
-        """
+        again."""
         questions = [f"WAIT {name}", "LAYERS", *edges_lines(name, columns), f"WAIT {name}"]
         while True:
             before, layers, *found, after = list(self.answers(questions))
@@ -533,8 +528,7 @@ class Server:
     store: the file; without it all is kept in memory, and lost at the end. create: the file is made anew. read_only: it
     is opened for reading alone, as any number of programs may at once; what is put then lives in memory.
     timeout: how many seconds a session waits for a line of a reply, for ever where it is None; then it is late.
-    A process that does not start raises its own fault as `Refused`.
-    """
+    A process that does not start raises its own fault as `Refused`."""
 
     def __init__(
         self, store: str | os.PathLike[str] | None = None, *, create: bool = False, read_only: bool = False,
@@ -567,15 +561,13 @@ class Server:
     def session(self, *, slow: bool = False, timeout: float = 30) -> contextlib.AbstractContextManager[Session]:
         """Lends a session to one thread, `with server.session() as session:`; slow for what may sleep: WAIT, SYNC.
 
-        Where none is free for so many seconds it raises TimeoutError, and Ended where none is left.
-        """
+        Where none is free for so many seconds it raises TimeoutError, and Ended where none is left."""
         return (self.slow if slow else self.quick).lend(timeout)
 
     def close(self, timeout: float = 60) -> tuple[int, str]:
         """Ends all sessions, upon which the program commits and ends. Its exit status and what it reported of faults.
 
-        A program that has not ended after so many seconds is killed.
-        """
+        A program that has not ended after so many seconds is killed."""
         for one in self.sessions:
             one.close()
         try:

@@ -1,8 +1,7 @@
 """Says how far long work is: by a bar of python3-tqdm on a terminal.
 
 Elsewhere, and of work that takes less than a second, nothing is said; `OfTasks`, of runs that may take hours, has lines
-for a file too.
-"""
+for a file too."""
 
 import time
 from collections.abc import Callable, Iterable

@@ -1,7 +1,6 @@
 """What the built overlay_live does: replies at once, pairs of paths, stores, faults.
 
-overlayd runs the scripts of examples/ beside it, which have to give the same bytes by both, and reads what it kept.
-"""
+overlayd runs the scripts of examples/ beside it, which have to give the same bytes by both, and reads what it kept."""
 
 from __future__ import annotations
 

@@ -3,8 +3,7 @@
 An example is a script of examples/ with the replies that it is to have beside it. Its first line says by which words
 it is run, as '# overlayd WORD..', and names the script again; without such a line it is standard input. The examples
 run in the order of their names, in one folder, so that one can open a store that another has made. A script without
-expected replies is run by another one's words.
-"""
+expected replies is run by another one's words."""
 
 from __future__ import annotations
 

@@ -11,8 +11,7 @@ text names, by the imports of the file and through what crates pass on (`pub use
 that a definition binds itself is left out. Of a type with a model it takes what the model's value names; of any other
 the payloads of its cases, and the fields that a contract or a definition names; of a trait its clauses. It does not
 follow link words. It ends where a definition that is reached names one of `proofs/`, or one that is not there. Lemmas
-are not counted; what is reached of the kit's own definitions is, in a column of its own.
-"""
+are not counted; what is reached of the kit's own definitions is, in a column of its own."""
 
 from __future__ import annotations
 
@@ -33,8 +32,7 @@ PAGE = pathlib.Path("docs/BELIEVE.md")
 def tables() -> tuple[Tables, tuple[Link, ...], tuple[Pin, ...], list[str]]:
     """What the page is written from, link words, definitions that a law says whole, and the rows that a release has.
 
-    `@NAME` in a list of tables.toml stands for the group of that name, and `@all but NAME` for all calls but one.
-    """
+    `@NAME` in a list of tables.toml stands for the group of that name, and `@all but NAME` for all calls but one."""
     home = pathlib.Path(__file__).resolve().parent / "believing"
     given = tomllib.loads((home / "tables.toml").read_text())
     groups, packed = given["groups"], given["texts"]["packed"]

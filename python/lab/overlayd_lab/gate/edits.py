@@ -30,8 +30,7 @@ found values at which it does, it owes a control.
 A control leaves what its function means as it was, in a shape like that of the wrong body: one that falls at a proof
 that was written for the text as it is may fall by its shape alone, and its control shows it. A refutation changes the
 clause at which its wrong body falls into what that does instead, which contradicts the clause: the wrong body is proved
-to be wrong.
-"""
+to be wrong."""
 
 from __future__ import annotations
 
@@ -208,8 +207,7 @@ def beside(top: pathlib.Path, given: list[Edit], kind: str) -> list[Edit]:
 
 def strangers(top: pathlib.Path, names: list[str]) -> list[str]:
     """What stands in must-fail/ and is none to `rt must-fail`; edits elsewhere; names that stand twice, and in
-    must-fail/ too; those beside nothing.
-    """
+    must-fail/ too; those beside nothing."""
     found: list[str] = []
     for home in (top / "crates" / name for name in names):
         files = [*home.glob("*/*.edit"), *home.glob("*/*.edits"), *home.glob("*.edits"), *(home / MUST_FAIL).glob("*")]
@@ -239,8 +237,7 @@ def digest(home: pathlib.Path) -> str:
 
 def age(top: pathlib.Path, crate: str) -> str:
     """What is to be reported of when the wrong bodies of a crate's file were tried last: nothing where it has none, or
-    where neither they nor its texts have changed since.
-    """
+    where neither they nor its texts have changed since."""
     home = top / "crates" / crate
     tried, entries = read(home)
     if not any(one.body for one in entries) or tried == digest(home):

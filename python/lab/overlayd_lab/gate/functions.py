@@ -4,8 +4,7 @@ Sources are laid out by `rt fmt`, so a function begins at the margin or four col
 on its own line. The prover names one by its module, its type and itself: `bounds::Bounds::with`; one of an `impl` for a
 trait by both names in one, `point::PtOrd::cmp`; one of a type by the module where the type is, wherever its `impl`
 stands; but one of an `impl` for some types alone by the module where that stands, and with what the type is given
-there: `fault_disk::PlannedDisk+D+FaultPlan::new`.
-"""
+there: `fault_disk::PlannedDisk+D+FaultPlan::new`."""
 
 from __future__ import annotations
 
@@ -25,8 +24,7 @@ class Function:
     """A function: its name, its file, and the lines, from 0, of its head, of the brace of its body and of its end.
 
     It has no proof of its own where a trait declares it; the `drop` of a type, and a function of two `impl` blocks,
-    have names of the prover's.
-    """
+    have names of the prover's."""
 
     name: str
     path: str

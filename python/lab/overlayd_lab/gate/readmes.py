@@ -6,8 +6,7 @@ Each crate has a README.md. In a table whose first column is headed Call or Law,
 crate (of docs/PROOFS.md: CRATE::NAME), and each name within round brackets of the second column is a clause of the
 crate, or a field of a record that its definitions have. Each name after **Wrong bodies** is an edit of the crate (of
 docs/PROOFS.md, after **Refused**: of any crate). Every other word in backquotes stands somewhere in the sources.
-README.md has the numbers of docs/BELIEVE.md.
-"""
+README.md has the numbers of docs/BELIEVE.md."""
 
 from __future__ import annotations
 

@@ -11,8 +11,7 @@ compile (Debian's libcgal-dev libgmp-dev libmpfr-dev, libpolyclipping-dev, libbo
 - A line of LOCATE over one layer, beside GEOS (floating point, no text).
 
 Processor seconds, the least of several runs; ours is the difference of two scripts. Replies are thrown away, as the
-peers' edges are: what a pipe takes depends on its reader.
-"""
+peers' edges are: what a pipe takes depends on its reader."""
 
 from __future__ import annotations
 

@@ -6,8 +6,7 @@ OUTPUT is what the program wrote for the scripts. The numbers after `ok` give ea
 one history: each number from 1 on stands just once, and its command is accepted there. Every other reply is right at
 some version of it that is no older than what the session saw, has all its own accepted commands, and none still to be
 sent. EDGES and VERIFY may be pending only where no session has read that the layer was built, with nothing changed
-since. Refusals of UNJUDGED are counted apart.
-"""
+since. Refusals of UNJUDGED are counted apart."""
 
 from __future__ import annotations
 
@@ -424,8 +423,7 @@ def judge(scripts: list[bytes], output: str, before: Sequence[Request] = (), has
           is_cut: bool = False) -> Judged:
     """Judges the output of the program for these scripts, over the book that the accepted commands `before` left.
 
-    Where is_cut, sessions may have ended before all their lines were answered.
-    """
+    Where is_cut, sessions may have ended before all their lines were answered."""
     replies = sections(output, len(scripts))
     asked = [requests_of(model.lines_of(script)) for script in scripts]
     for place, (requests, answers) in enumerate(zip(asked, replies)):

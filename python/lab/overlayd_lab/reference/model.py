@@ -6,8 +6,7 @@ Prints the replies of one script over an empty book without a store, where all t
 refused by 46, and EDGES and VERIFY never by 21.
 
 All is by counting over all segments, in whole numbers and fractions. What was once worked out for a layer's meaning is
-kept under a key.
-"""
+kept under a key."""
 
 from __future__ import annotations
 

@@ -5,8 +5,7 @@ point by LOCATE. It needs python3-pil, python3-selenium, chromium-driver and lib
 
     /usr/bin/python3 -m overlayd_lab.trials.browser [--program PATH] [--python PATH] [--pictures FOLDER]
 
-Status 0 and a last line `N passed, 0 failed`, or what fell.
-"""
+Status 0 and a last line `N passed, 0 failed`, or what fell."""
 
 from __future__ import annotations
 

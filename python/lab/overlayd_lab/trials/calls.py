@@ -6,8 +6,7 @@ Builds the program of trials/calls, unproved (minutes); PROGRAM is one that was 
 input the first growth is refused, then the second and so on, until a run meets no refusal. A run is right where it
 answers as with memory, or by 40 (over a disk also 30) with all as before, and then the same call gives the answer. How
 lists, books, sessions and servers are judged stands in trials/calls; the judges are shown wrong ones at last. The
-server's counts differ from run to run. Status 1: a run is wrong.
-"""
+server's counts differ from run to run. Status 1: a run is wrong."""
 
 from __future__ import annotations
 

@@ -6,8 +6,7 @@ Builds its two programs, unproved (minutes), or takes built ones. In memory a st
 one of format 1 too (old_files.py), while the disk stops at each call or one call fails: 30 comes exactly there, and
 what the disk may hold is recovered as the old or the new content. Then files are cut to each length, and
 each byte and bit of them is changed: answers are those of reference/read_store.py, and VERIFY of each tile
-returns. At last sessions whose reader or writer fails. Status 1: anything is wrong.
-"""
+returns. At last sessions whose reader or writer fails. Status 1: anything is wrong."""
 
 from __future__ import annotations
 

@@ -6,8 +6,7 @@ The program loads faults.c, which lets a call on the store's file or folder fail
 nothing done, half a write done, interrupted, or the device full. A sync that fails loses what was written since the
 last one, or half of each write. Each run ends; its replies are the model's, but for 30 by SYNC; the store holds a
 version no older than what was reported durable, and opens. A program that leaves out a sync is seen. Status 1: a line
-of the table is wrong.
-"""
+of the table is wrong."""
 
 import argparse
 import pathlib

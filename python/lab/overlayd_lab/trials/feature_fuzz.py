@@ -6,8 +6,7 @@ Hostile pairs (relation, whether one contains the other properly, three areas wi
 four features in cells, points to locate. Each job is asked at three limits of steps, so that cores are halved anywhere:
 all numbers but the counts of pieces and passes and the bound are the same. With --outlines these are asked for and are
 the same, too: simple rings with the inside on their left, holes within their outer ring, the judge's area, and as
-doubles the ones nearest to the fractions. The last line is 'N passed, M failed'.
-"""
+doubles the ones nearest to the fractions. The last line is 'N passed, M failed'."""
 
 from __future__ import annotations
 

@@ -4,8 +4,7 @@
 
 A few squares by pairs, cells and points, whose rows are known by hand, as lines of text; blocks that are refused, each
 with its number and the job at fault, between others that are answered; words that the program does not know. The last
-line is 'N passed, M failed'.
-"""
+line is 'N passed, M failed'."""
 
 from __future__ import annotations
 

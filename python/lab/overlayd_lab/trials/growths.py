@@ -6,8 +6,7 @@ The program loads growths.c, which refuses a call for memory or a thread (it see
 ends; its replies are the model's, but that one growth may be reported once (refusing.py); the store holds a version no
 older than what was reported durable, and opens. Scripts that wait for nothing also run with all growths refused from
 each one on. --step N takes each Nth, --every many at once. Counts differ by the threads' order. Status 1: a line is
-wrong.
-"""
+wrong."""
 
 import argparse
 import pathlib

@@ -5,8 +5,7 @@ python3 -m overlayd_lab.trials.live_stress PROGRAM [--seconds N] [--seed N] [--k
 PROGRAM is overlay_live. It runs again and again on one store, over pipes with and without names; the sessions share
 layers. Each reply is judged as it comes. Two of three runs end by kill -9, the others by the end of all lines. The file
 then holds a version no older than each `durable N` that was read, and the next run says the same; at the end its tiles
-are compared with the model's. Status 1, and the store is kept: anything is wrong.
-"""
+are compared with the model's. Status 1, and the store is kept: anything is wrong."""
 
 from __future__ import annotations
 
@@ -212,8 +211,7 @@ class Judge:
         """Judges all that is left of a run that was killed and left this version of these layers.
 
         Of each session the first line without a reply may have been run, the others not: each of these commands has
-        some place in the history, or none, so that all replies are right.
-        """
+        some place in the history, or none, so that all replies are right."""
         if number < self.durable:
             raise judging.Wrong(f"version {self.durable} was reported durable, and the store has {number}")
         for lane in self.lanes:

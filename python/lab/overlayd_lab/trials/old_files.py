@@ -1,8 +1,7 @@
 """A module for crashes.py and damages.py: two files of format 1, whose 17 columns are twice as wide as ours.
 
 One is written here byte by byte, as docs/FORMAT.md has it, with a closed slot that opening completes. The other was
-written by the program when its files were of that format.
-"""
+written by the program when its files were of that format."""
 
 import gzip
 import pathlib

@@ -56,8 +56,7 @@ class Scenario:
     def prepare(self, program: str, folder: pathlib.Path) -> bytes | None:
         """Makes the store that the runs open; its bytes, None where they make one.
 
-        The gate of its older root is half open, so that opening writes and syncs.
-        """
+        The gate of its older root is half open, so that opening writes and syncs."""
         if not self.before:
             return None
         path = folder / "before.db"

@@ -60,8 +60,7 @@ def check_memory(refusals: list[Refusal]) -> None:
 def refusals_of(outcome: Outcome, judged: Judged | None) -> tuple[list[Refusal], list[Refusal], int | None]:
     """The refusals that were reported: the lines that no SYNC asked, the SYNCs, and the number on standard error.
 
-    Status 1 without a line says that the store has not the newest version, as `judge_store` sees.
-    """
+    Status 1 without a line says that the store has not the newest version, as `judge_store` sees."""
     if outcome.status == 0 and outcome.fault or not outcome.fault and is_silent(outcome) and not has_store(judged):
         raise judging.Wrong(f"status {outcome.status}, standard error {outcome.fault[:100]!r}")
     lines: list[Refusal] = []
@@ -90,8 +89,7 @@ def cut(judged: Judged | None) -> list[Session]:
 def check_cut(outcome: Outcome, judged: Judged | None, fault: int | None) -> None:
     """Looks at what one refused growth may cut off: a session that had no memory to begin, which has no reply then
     (40), or none for a reply (49). A single session that has read a line has replies but for 49; of several something
-    is printed but for 40.
-    """
+    is printed but for 40."""
     sessions = cut(judged)
     if len(sessions) > 1:
         raise judging.Wrong(f"one growth cuts off {len(sessions)} sessions")
@@ -112,8 +110,7 @@ def replies_behind(session: Session, place: int, word: str) -> list[list[str]]:
 
 def has_closed(outcome: Outcome, judged: Judged | None, fault: int | None) -> bool:
     """Whether the server may have closed while sessions ran: the thread of a later one was refused (40), so the last
-    one has no reply. overlayd prints nothing then; before the sessions there is nobody who could be told.
-    """
+    one has no reply. overlayd prints nothing then; before the sessions there is nobody who could be told."""
     last = judged.sessions[-1] if judged else None
     return outcome.is_live and fault == 40 and last is not None and bool(last.asked) and not last.replies
 
@@ -144,8 +141,7 @@ def but_closing(outcome: Outcome, judged: Judged | None, refusals: list[Refusal]
 
 def one_growth(outcome: Outcome, judged: Judged | None) -> None:
     """What one refused growth may do: one line is answered by 40; or the store gets it, which each SYNC says
-    until the next accepted command, and status 1 where none comes; or the run ends with it.
-    """
+    until the next accepted command, and status 1 where none comes; or the run ends with it."""
     refusals, of_syncs, fault = refusals_of(outcome, judged)
     lines, syncs = (but_closing(outcome, judged, each, fault) for each in (refusals, of_syncs))
     only({code for _, _, code in lines + syncs}, {40})
@@ -173,8 +169,7 @@ def many_growths(outcome: Outcome, judged: Judged | None) -> None:
 def device(outcome: Outcome, judged: Judged | None) -> None:
     """What calls of the device may do that fail: each SYNC says 30 from then on, or the run ends with it.
 
-    A failure that is reported nowhere shows in the store: what a failed write or sync was to bring there is lost.
-    """
+    A failure that is reported nowhere shows in the store: what a failed write or sync was to bring there is lost."""
     lines, syncs, fault = refusals_of(outcome, judged)
     only({code for _, _, code in lines}, set())
     only({code for _, _, code in syncs}, {30})
@@ -197,8 +192,7 @@ def history_before(scenario: Scenario) -> History:
 def history_alone(scenario: Scenario) -> History:
     """The history that the first session makes by itself, where none of its lines is refused memory.
 
-    A run without replies may have had it: the thread of the next session was refused.
-    """
+    A run without replies may have had it: the thread of the next session was refused."""
     history = history_before(scenario)
     for line in model.lines_of(scenario.scripts[0]):
         asked = judging.read_or_refusal(line)
@@ -210,8 +204,7 @@ def history_alone(scenario: Scenario) -> History:
 def check_lost(outcome: Outcome, made: int) -> None:
     """Looks whether the first session may have made so many versions, of which no reply was printed: where the thread
     of the next was refused; or, where it was the only one, the version of its first line, for whose reply it had no
-    memory.
-    """
+    memory."""
     is_write = outcome.fault.startswith("error 49 ")
     if outcome.sessions > 1 and not outcome.fault.startswith("error 40 ") or outcome.sessions == 1 and not is_write:
         raise judging.Wrong(f"no replies, though sessions ran, and `{outcome.fault.strip()}` is reported as the reason")

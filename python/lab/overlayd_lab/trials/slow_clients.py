@@ -7,8 +7,7 @@ gate, whose tests have 250 slow clients for some seconds.
 
     python3 -m overlayd_lab.trials.slow_clients [--program PATH] [--python PATH] [--clients 900]
 
-Status 0 and a last line `N passed, 0 failed`, or what fell.
-"""
+Status 0 and a last line `N passed, 0 failed`, or what fell."""
 
 from __future__ import annotations
 

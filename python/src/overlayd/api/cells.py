@@ -1,6 +1,5 @@
 """One expression for each of many features with those near it: what it has alone, or in common with any of another map;
-and unions of groups. In features on their grid, without GeoDataFrames.
-"""
+and unions of groups. In features on their grid, without GeoDataFrames."""
 
 from __future__ import annotations
 

@@ -24,8 +24,7 @@ class Checked(NamedTuple):
     closes: bool
 
 
-def check(df: Frame, *, grid_size: GridSize = None, square_metres: bool = False,
-          program: str | None = None) -> Checked:
+def check(df: Frame, *, grid_size: GridSize = None, square_metres: bool = False, program: str | None = None) -> Checked:
     """The overlaps of features, by the labels index_left and index_right, with shared_area and its bound; and the gaps
     that they enclose, with gap_area. By square_metres a frame in another unit is refused (NotInMetres)."""
     need_polygons(df=df)

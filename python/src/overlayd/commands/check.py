@@ -35,8 +35,7 @@ def command(question: Question) -> None:
     each other.
 
     Status 0: all is written, and the audit found no difference; 1: it found one, something has no answer, or cannot be
-    written; 2: a map or a word is refused, and nothing is written.
-    """
+    written; 2: a map or a word is refused, and nothing is written."""
     given = question.words
     out: pathlib.Path | None = given["out"]
     gaps: pathlib.Path | None = given["gaps"]

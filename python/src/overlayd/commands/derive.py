@@ -26,8 +26,7 @@ def command(question: Question) -> None:
 
     A map is the union of its features; & is what both have, | what one of them has, - what the first has and not the
     second, ^ what just one has. --a-layer and --where are those of each map. The area of the whole goes to standard
-    output, with by how much it may be off.
-    """
+    output, with by how much it may be off."""
     given = question.words
     named = dict(parted(text) for text in given["names"])
     if len(named) < len(given["names"]):

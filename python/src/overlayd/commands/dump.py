@@ -11,8 +11,7 @@ expression with the fewest brackets. It has no version numbers, and no tiles: th
 lies beside the store. It writes over no store and none of what it reads, nor over a scale that would be written
 otherwise where NAME.txt is not there as a script, to which it belongs.
 
-Status 0: all layers are written; 1: the store cannot be read, or the output cannot be written.
-"""
+Status 0: all layers are written; 1: the store cannot be read, or the output cannot be written."""
 
 import pathlib
 import sys
@@ -58,8 +57,7 @@ def write(layers: list[Layer], store: pathlib.Path, output: pathlib.Path) -> Non
 
 
 @subcommand(__doc__, argument("store", FILE), PROGRAM,
-            option("--output", "in the place of standard output, with the scale beside it", FILE,
-                   metavar="NAME.txt"))
+            option("--output", "in the place of standard output, with the scale beside it", FILE, metavar="NAME.txt"))
 def command(words: Words) -> int:
     try:
         with opened(words.program or found_program(), words.store) as session:

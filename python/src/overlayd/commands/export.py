@@ -16,8 +16,7 @@ says that it is of a plane of its own: GeoJSON that says nothing is of degrees.
 not written over.
 
 Status 0: all layers are written; 1: the store cannot be read, a layer has no rings to give, or the output
-cannot be written; 2: a word is refused.
-"""
+cannot be written; 2: a word is refused."""
 
 import json
 import pathlib

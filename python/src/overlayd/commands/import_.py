@@ -30,8 +30,7 @@ Many features with all that they have are a register's (overlay register): a sto
 Status 0: all was written; 1: something was refused, the rest was written, no layer came of the files and nothing was
 written, or standard output or an open standard error cannot be written; 2: a file could not be read, the factor does
 not fit, no feature has the property of --name-by, or what would be written over is a store, an input, a scale that a
-store beside it needs, or a file that was not named and belongs to no script of --output, and nothing was written.
-"""
+store beside it needs, or a file that was not named and belongs to no script of --output, and nothing was written."""
 
 import re
 import sys

@@ -36,8 +36,7 @@ def command(question: Question) -> None:
     by how much it may be off, and the areas of both. The largest is first.
 
     Status 0: all is written; 1: something has no answer, or cannot be written; 2: a map or a word is refused, and
-    nothing is written.
-    """
+    nothing is written."""
     given = question.words
     out: pathlib.Path | None = given["out"]
     map_words.check_outputs({"--out": out}, (given["first"], given["second"]))

@@ -75,8 +75,7 @@ def command(question: Question) -> None:
     with them all and what it has alone.
 
     Status 0: all is written, and the audit found no difference; 1: it found one, something has no answer, or cannot be
-    written; 2: a map or a word is refused, and nothing is written.
-    """
+    written; 2: a map or a word is refused, and nothing is written."""
     given = question.words
     out: pathlib.Path | None = given["out"]
     shown: pathlib.Path | None = given["pieces"]

@@ -19,8 +19,7 @@ with --exact:
 
 Coordinates and areas are those of the world where a scale is there. A base layer has the boundary of its even-odd
 inside. Status 0: all rings are written; 1: the store cannot be read, a column is missing or oversize, or the output
-cannot be written.
-"""
+cannot be written."""
 
 import sys
 from collections.abc import Iterator

@@ -12,8 +12,7 @@ web/README.md has more.
 
 Status 0: ended by SIGTERM or an interrupt; 1: the store could not be opened, nobody can listen at the address,
 overlay_live has ended by itself or by a fault or answers no more, or a copy of the store is in its place after a
-write failed, each of which is reported: begin it anew; 2: wrong words.
-"""
+write failed, each of which is reported: begin it anew; 2: wrong words."""
 
 from __future__ import annotations
 

@@ -14,8 +14,7 @@ there already it is shown as it is: `overlay register` keeps and changes it, `ov
 opened where there is a screen, but for --no-browser. Ctrl-C ends the front.
 
 Status 0: ended by Ctrl-C or SIGTERM, or all of it made by --only-make; 1: a program is not there, a file cannot be
-written, or the front ended by a fault; 2: wrong words, or a map that cannot be read.
-"""
+written, or the front ended by a fault; 2: wrong words, or a map that cannot be read."""
 
 from __future__ import annotations
 

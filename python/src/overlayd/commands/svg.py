@@ -8,8 +8,7 @@ and how many pieces its tile has. With --points N are drawn: full where in, a ri
 Where a scale is there, a bar of it and the corners of the picture are reported. Coordinates of the picture are rounded
 to a hundredth of a unit.
 
-Status 0: the picture is whole; 1: it is not, there is none, or it cannot be written.
-"""
+Status 0: the picture is whole; 1: it is not, there is none, or it cannot be written."""
 
 import html
 import math

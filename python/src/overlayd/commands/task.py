@@ -19,8 +19,7 @@ def command(question: Question) -> None:
         seq 0 89 | xargs -P 8 -n 4 overlay task W/1
         overlay pairs a.gpkg b.gpkg --grid 0.001 --work W
 
-    FOLDER is that of a stage within --work; tasks have numbers from 0.
-    """
+    FOLDER is that of a stage within --work; tasks have numbers from 0."""
     given = question.words
     folder: pathlib.Path = given["folder"]
     asking.do_tasks(program_of(given), folder, given["numbers"])

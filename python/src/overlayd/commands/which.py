@@ -18,8 +18,7 @@ the line is `edge`, a tab, and the names that it may belong to. Where it cannot 
 the point as it was typed and the reason; all others are answered. Within what was typed a tab or the end of a line is a
 blank.
 
-Status 0: all points are answered; 1: one is not, or the output cannot be written.
-"""
+Status 0: all points are answered; 1: one is not, or the output cannot be written."""
 
 import pathlib
 import sys

@@ -4,8 +4,7 @@ A system that only resembles one of an authority has no name, and its Well-Known
 written of it. A map that says nothing of its system is of UNKNOWN, a plane of its own, which no reader takes for
 degrees.
 
-Systems are compared by GDAL. A module for the tools; it is no tool of its own.
-"""
+Systems are compared by GDAL. A module for the tools; it is no tool of its own."""
 
 import json
 import contextlib

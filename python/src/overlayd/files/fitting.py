@@ -1,5 +1,4 @@
-"""Proposes a factor and an origin from the box of a map, and says where those that were used do not fit it.
-"""
+"""Proposes a factor and an origin from the box of a map, and says where those that were used do not fit it."""
 
 from collections.abc import Iterable
 from dataclasses import dataclass

@@ -1,8 +1,7 @@
 """Reads and writes maps of other forms than GeoJSON and Well-Known Text, by GDAL.
 
 `as_geojson` gives what a file has as GeoJSON whose numbers are the shortest ones that spell the file's doubles, and
-`write` makes a file of GeoJSON.
-"""
+`write` makes a file of GeoJSON."""
 
 import contextlib
 import json

@@ -1,7 +1,6 @@
 """Reads GeoJSON and Well-Known Text into shapes, and gives the names of their coordinates.
 
-GeoJSON is one object, or a feature on each line (GeoJSON text sequences). Other forms are read by gdal_files.py.
-"""
+GeoJSON is one object, or a feature on each line (GeoJSON text sequences). Other forms are read by gdal_files.py."""
 
 import json
 import pathlib
@@ -32,8 +31,7 @@ class Refused(Exception):
 class Shape:
     """One geometry: what it is called, the layer it asks for, type, coordinates, the feature and file it is from.
 
-    A fault says why there is none.
-    """
+    A fault says why there is none."""
 
     label: str
     wish: str | None

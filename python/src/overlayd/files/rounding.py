@@ -1,5 +1,4 @@
-"""Polygons in whole numbers of those in fractions, and what rounding did to them.
-"""
+"""Polygons in whole numbers of those in fractions, and what rounding did to them."""
 
 from collections.abc import Callable
 from dataclasses import dataclass
@@ -100,8 +99,7 @@ class Rounding:
     def polygon(self, polygon: Any, say: Callable[[str], None]) -> tuple[Polygon, Tally]:
         """The polygon in whole numbers and its tally.
 
-        A hole that cannot be written is left out; an outer ring takes the polygon along.
-        """
+        A hole that cannot be written is left out; an outer ring takes the polygon along."""
         rings: Polygon = []
         tally = Tally()
         for number, positions in enumerate(polygon):

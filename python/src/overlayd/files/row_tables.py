@@ -1,7 +1,6 @@
 """Tables of the kernel's rows: as text, as arrays of numpy, and as a layer of a GeoPackage, without a loop over rows.
 
-What calls a feature is a text; a map's features are called by their numbers where no names are given.
-"""
+What calls a feature is a text; a map's features are called by their numbers where no names are given."""
 
 from __future__ import annotations
 

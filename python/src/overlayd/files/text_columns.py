@@ -1,7 +1,6 @@
 """Maps of GeoJSON and Well-Known Text as columns; arrow_reading.py reads other files.
 
-GDAL reads these texts too, but loses of them ids that are not of one type, and how many digits a number has.
-"""
+GDAL reads these texts too, but loses of them ids that are not of one type, and how many digits a number has."""
 
 from __future__ import annotations
 

@@ -1,6 +1,5 @@
 """Writes files whole or not at all: each is written beside its place, and takes it when all of it, or all of them, is
-written.
-"""
+written."""
 
 import contextlib
 import hashlib

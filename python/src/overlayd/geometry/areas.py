@@ -1,5 +1,4 @@
-"""Areas of rings with exact corners: rounded, and as fractions where these are short or are asked for.
-"""
+"""Areas of rings with exact corners: rounded, and as fractions where these are short or are asked for."""
 
 from collections.abc import Iterable
 from dataclasses import dataclass
@@ -59,8 +58,7 @@ def is_short(number: Fraction) -> bool:
 def in_world(rings: Iterable[Ring], scale: Scale, with_fraction: bool) -> tuple[Fraction, str | None]:
     """The area of outer rings without holes in the world's unit, and its fraction where it is short or asked for.
 
-    Where corners with many denominators would make it long, and it is not asked for, it is worked out nearly.
-    """
+    Where corners with many denominators would make it long, and it is not asked for, it is worked out nearly."""
     terms = terms_of(rings)
     bits = sum(denominator.bit_length() for denominator in {denominator for _, denominator in terms})
     if bits > WORKED_MAX and not with_fraction:

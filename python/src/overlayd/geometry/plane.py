@@ -1,8 +1,7 @@
 """Points, rings and boxes with exact corners, and what is worked out of them: turns, areas, where a point lies.
 
 A point (x, y, w) is the place (x / w, y / w), w > 0, as the program's replies have it. A ring is its corners; whether
-the first of them stands once more at its end makes no difference here. What is inside of rings is so by even-odd.
-"""
+the first of them stands once more at its end makes no difference here. What is inside of rings is so by even-odd."""
 
 from collections.abc import Iterable, Iterator, Sequence
 from fractions import Fraction

@@ -114,8 +114,7 @@ class Rings:
         """For each ring the number of the outer ring of its polygon.
 
         Just below the least corner of a hole is a piece of its polygon: of the outer ring, or of a hole that begins at
-        an earlier corner, or lower at the same one.
-        """
+        an earlier corner, or lower at the same one."""
         found = {number: number for number, ring in enumerate(self.rings) if ring.outer}
         for number in range(len(self.rings)):
             passed: list[int] = []

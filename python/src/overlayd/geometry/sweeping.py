@@ -34,8 +34,7 @@ def ordered(corners: Iterable[Corner]) -> list[Corner]:
     """The corners by x, then by y.
 
     Two fractions that are not equal differ by 1 through the product of their denominators or more. So the whole parts
-    of their multiples by a greater number than any such product have the same order.
-    """
+    of their multiples by a greater number than any such product have the same order."""
     found = list(corners)
     most = max((w for _, _, w in found), default=1)
     if most == 1:
@@ -60,8 +59,7 @@ class Status:
         """Puts pieces that begin at a point in the place of so many that end there; these, and the piece below them.
 
         Where a vertical piece leads to the point from the one before, no other piece is between. A piece that passes
-        through a point at which it does not end is refused.
-        """
+        through a point at which it does not end is refused."""
         x, y, w = point
         at = self.last if goes_on and self.last is not None else bisect.bisect_left(
             self.lines, True, key=lambda line: line[0] * x + line[1] * y + line[2] * w <= 0)

@@ -1,5 +1,4 @@
-"""Reads and writes Well-Known Text: any geometry is read, with fractions, exponents, Z and M.
-"""
+"""Reads and writes Well-Known Text: any geometry is read, with fractions, exponents, Z and M."""
 
 import re
 from collections.abc import Callable, Iterable

@@ -4,8 +4,7 @@ A coordinate is first the nearest double, as GDAL, PostGIS, QGIS and shapely rea
 shortest decimal that prints as it. So a text and the double that is read of it are one number. Of two whole numbers
 that are as near the greater one is taken.
 
-A module for the tools and web/; it uses none of them.
-"""
+A module for the tools and web/; it uses none of them."""
 
 from __future__ import annotations
 

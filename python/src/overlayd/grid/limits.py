@@ -1,5 +1,4 @@
-"""The limits of overlayd and the borders of its columns: the one place where Python has these numbers.
-"""
+"""The limits of overlayd and the borders of its columns: the one place where Python has these numbers."""
 
 COORDINATE_MAX = 2**20
 COLUMNS = 33

@@ -9,8 +9,7 @@ it has other ones.
 world = stored / factor + origin, for x and for y; `digits` is how many stand after the point where a number of the
 world is written. Numbers are exact: one that a double cannot hold is written as a text. `crs` is an authority and its
 code, or Well-Known Text where no authority has the system (coordinate_systems.py). Without it (null) the numbers are
-those of a plane that is nowhere on the earth.
-"""
+those of a plane that is nowhere on the earth."""
 
 import contextlib
 import json

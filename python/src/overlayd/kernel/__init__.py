@@ -3,8 +3,7 @@
     from overlayd.kernel import Ask, Wants, columns, overlay
 
     rows = overlay(columns.of_bytes(parcels), columns.of_bytes(zones), Ask("overlay_features"))
-    rows.pairs, rows.relations(), rows.areas().doubles(), rows.areas().bounds(), rows.areas().exact(0)
-"""
+    rows.pairs, rows.relations(), rows.areas().doubles(), rows.areas().bounds(), rows.areas().exact(0)"""
 
 from .asking import Ask
 from .blocks import Wants

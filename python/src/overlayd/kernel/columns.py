@@ -1,8 +1,7 @@
 """Columns of Well-Known Binary: the bytes of many shapes one after the other, and the doubles in them.
 
 Doubles lie in them at any byte, so all numbers are read and written by views of the whole column that begin at byte 0
-to 7.
-"""
+to 7."""
 
 from __future__ import annotations
 

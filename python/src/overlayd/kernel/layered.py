@@ -1,8 +1,7 @@
 """Expressions over maps whose features may overlap: each map is some layers, which together are its union.
 
 A layer is even-odd over its features. So it is their union where no two of them overlap, which its audit shows: its
-area is then the sum of theirs. Features in several layers are looked at by membership.py.
-"""
+area is then the sum of theirs. Features in several layers are looked at by membership.py."""
 
 from __future__ import annotations
 

@@ -4,8 +4,7 @@ A layer is even-odd over its features, so it is their union where no two of them
 different layers as long as these do. Where they do not, features that lie within others are left out, and those that
 still get none are each in several layers, by mixed numbers. A place of such a feature is in some layer but where all
 layers are even there: by chance one place in 2 to the number of layers. So the program is asked what each of them has
-that no layer has, which must be nothing; else it gets another number.
-"""
+that no layer has, which must be nothing; else it gets another number."""
 
 from __future__ import annotations
 

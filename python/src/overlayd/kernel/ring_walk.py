@@ -1,8 +1,7 @@
 """Where the rings of a column of Well-Known Binary lie.
 
 For all features at once, as many rounds as a feature has rings and polygons; of the last few features, which have more,
-one by one.
-"""
+one by one."""
 
 from __future__ import annotations
 

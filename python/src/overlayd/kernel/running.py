@@ -2,8 +2,7 @@
 
 The process ends with the one that began it: its input is a pipe, at whose end it ends by itself, at the latest when it
 has done the block in hand. No signal of the system's that belongs to a thread is asked for, so it outlives the thread
-that began it. A thread that reads rows keeps Python from ending, as any does that is no daemon.
-"""
+that began it. A thread that reads rows keeps Python from ending, as any does that is no daemon."""
 
 from __future__ import annotations
 

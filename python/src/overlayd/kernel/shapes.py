@@ -1,8 +1,7 @@
 """Polygons and multipolygons of Well-Known Binary as flat arrays, and back.
 
 Of either order of bytes, with Z or M or both, which are left out, in the standard's form and in PostGIS's with a
-system's number. A shape of another kind, as a curve or a point, has no rings and is named.
-"""
+system's number. A shape of another kind, as a curve or a point, has no rings and is named."""
 
 from __future__ import annotations
 

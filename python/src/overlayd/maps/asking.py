@@ -1,8 +1,7 @@
 """By whom the blocks of a question are done: programs of this machine, processes, Dask, or whoever has a task's number.
 
 Without a folder blocks go to programs at once. With --work or --dask each block is a task of a folder, and each reply
-its result; each part of a question is a stage of its own, in a folder 1, 2 and so on.
-"""
+its result; each part of a question is a stage of its own, in a folder 1, 2 and so on."""
 
 from __future__ import annotations
 

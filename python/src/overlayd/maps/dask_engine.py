@@ -1,8 +1,7 @@
 """Does tasks by workers of Dask: of a cluster that is made on this machine, or of a scheduler at an address.
 
 Dask's scheduler runs whatever Python it is sent. So a cluster of this machine speaks TLS with keys of its own, and an
-address beyond the loopback is reported where it is without TLS.
-"""
+address beyond the loopback is reported where it is without TLS."""
 
 import contextlib
 import ipaddress

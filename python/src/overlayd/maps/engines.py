@@ -1,8 +1,7 @@
 """Does the tasks of a folder: one after another, or several at once. dask_engine.py has Dask's workers.
 
 An engine is given what does a task, the folder, and the numbers that have no result yet; it gives each number as soon
-as its result is in the folder.
-"""
+as its result is in the folder."""
 
 from collections.abc import Callable, Iterable, Iterator
 from concurrent import futures

@@ -9,8 +9,7 @@ The last line of a task and of a result is the digest of what is before it, so a
 The line before that of a result is its task's digest, so one that came of another task is known too.
 
 So whoever can name a file can do a task, several at once and on several machines, and a run that was broken off goes on
-where it was: nothing is known but what is in files.
-"""
+where it was: nothing is known but what is in files."""
 
 import contextlib
 import fcntl
@@ -145,8 +144,7 @@ def begin(path: pathlib.Path, run: Mapping[str, Any], tasks: Iterable[bytes]) ->
     """The folder with the tasks of a run: they are written where they are not all there yet, else none is looked at.
     Where there is no plan, no result is taken for one of this run's.
 
-    run: what is asked, as JSON has it; a folder that has tasks of anything else is refused.
-    """
+    run: what is asked, as JSON has it; a folder that has tasks of anything else is refused."""
     folder = TaskFolder(path)
     path.mkdir(parents=True, exist_ok=True)
     wanted = json.loads(json.dumps(run))

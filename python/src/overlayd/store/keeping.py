@@ -1,5 +1,4 @@
-"""Keeps what lies beside a store: the files that say what its numbers mean are not written anew under it.
-"""
+"""Keeps what lies beside a store: the files that say what its numbers mean are not written anew under it."""
 
 import json
 import pathlib

@@ -1,8 +1,7 @@
 """Lays polygons out over layers and stores, and splits exactly what is too long.
 
 A ring is cut into runs, each closed through the ring's first point: the chords occur twice, so that by even-odd the
-runs joined by ^ are the ring, with no new corner and nothing rounded.
-"""
+runs joined by ^ are the ring, with no new corner and nothing rounded."""
 
 from dataclasses import dataclass, field
 

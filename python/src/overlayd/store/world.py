@@ -7,8 +7,7 @@
         rings(session, "rest")                                  # polygons with exact corners, in the store's numbers
         world = World(server)                                   # by map.scale.json beside map.db
         session.put("plot", world.text_of(polygon))             # anything with __geo_interface__, as of shapely
-        shapely.geometry.shape(world.shape_of(rings(session, "rest")))
-"""
+        shapely.geometry.shape(world.shape_of(rings(session, "rest")))"""
 
 import json
 from collections.abc import Callable, Mapping
@@ -119,8 +118,7 @@ class World:
         """The Well-Known Text of a geometry of the world: anything with __geo_interface__, or of GeoJSON.
 
         Each corner is at the nearest whole place. Of what is no polygon a ValueError says so; a ring that cannot be
-        kept, as one that is too small, the program refuses where the text is put.
-        """
+        kept, as one that is too small, the program refuses where the text is put."""
         return text_of(geojson_of(geometry), self.scale).wkt
 
     def shape_of(self, polygons: list[list[Ring]]) -> Shape:

@@ -1,8 +1,7 @@
 """The server of the front: waitress.
 
 Of waitress alone a connection lives as long as something comes or goes now and then, and its own refusals are plain
-text. Here a request and an answer have an end, and what waitress refuses is reported as the front says it.
-"""
+text. Here a request and an answer have an end, and what waitress refuses is reported as the front says it."""
 
 from __future__ import annotations
 

@@ -1,8 +1,7 @@
 """The pages of OGC API - Features, part 1 (core and GeoJSON), over the layers of a store.
 
 A layer is a collection, and each polygon of it an item: an outer ring and its holes. Items are numbered in the order of
-their least corners, so a number holds as long as the layer's revision does.
-"""
+their least corners, so a number holds as long as the layer's revision does."""
 
 from __future__ import annotations
 

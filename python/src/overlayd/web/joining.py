@@ -27,8 +27,7 @@ class TooLarge(Exception):
 class Joiner:
     """One process, which the first work begins.
 
-    It is not forked: a fork would hold the ends of the sessions' pipes, and overlay_live would never see their end.
-    """
+    It is not forked: a fork would hold the ends of the sessions' pipes, and overlay_live would never see their end."""
 
     def __init__(self) -> None:
         self._process: BaseProcess | None = None

@@ -18,8 +18,7 @@ V = TypeVar("V")
 class Kept(Generic[K, V]):
     """Values by key. Each is made once, also where several threads ask at once; those unused longest make room.
 
-    weigh says how heavy a value is, most how much all together may weigh. The value asked for last always stays.
-    """
+    weigh says how heavy a value is, most how much all together may weigh. The value asked for last always stays."""
 
     def __init__(self, most: int, weigh: Callable[[V], int]) -> None:
         self._lock = threading.Lock()

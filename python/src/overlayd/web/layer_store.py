@@ -2,8 +2,7 @@
 
 All that a process does not keep is kept here under a layer's revision, a digest of what the layer is made of: its own
 text, or its definition with the revisions of the layers that this names. So a change to one layer leaves what was
-worked out for others, and a revision that comes again finds its polygons again.
-"""
+worked out for others, and a revision that comes again finds its polygons again."""
 
 from __future__ import annotations
 
@@ -74,8 +73,7 @@ class LayerStore:
     """The layers of a process. The process has no other sessions than those of `server`, so versions are counted here.
 
     version: the number that the process began with, and kept: whether it is the number of a file. rescue: what is begun
-    where the file is not written any more. end: called with the reason where the front cannot go on.
-    """
+    where the file is not written any more. end: called with the reason where the front cannot go on."""
 
     def __init__(
         self, server: Server, scratch: Scratch, scale: MapScale, *, version: int, kept: bool, writable: bool,
@@ -203,8 +201,7 @@ class LayerStore:
     def _remind(self, name: str) -> None:
         """Has tiles tried again that were given back for want of memory: WAIT does so, and is answered at once.
 
-        Of others it is answered when they are built. So it is asked by a thread of its own, and one at a time.
-        """
+        Of others it is answered when they are built. So it is asked by a thread of its own, and one at a time."""
         if not self._server.slow.lost() and self._reminding.acquire(blocking=False):
             threading.Thread(target=self._wait, args=(name,), daemon=True).start()
 

@@ -72,8 +72,7 @@ class MapApi:
     def _question(self, x: Fraction, y: Fraction) -> tuple[Point, dict[str, object]]:
         """What LOCATE is asked, and what the answer says of it: the point that was asked, and whether it is as given.
 
-        A point out of the plane is refused here, as the program reads no number of so many digits as it may have.
-        """
+        A point out of the plane is refused here, as the program reads no number of so many digits as it may have."""
         question = self.scale.scale.question(x, y)
         if max(abs(question[0]), abs(question[1])) > limits.COORDINATE_MAX * question[2]:
             system = self.systems.storage or coordinate_systems.shown(self.scale.scale.crs)

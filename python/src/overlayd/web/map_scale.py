@@ -1,7 +1,6 @@
 """How places of a store are written on the web, and how numbers of the web are asked, over a scale of tools/scale.py.
 
-A number of the web is a decimal, or a fraction as 5/3. Only what is written is rounded, by the scale's digits.
-"""
+A number of the web is a decimal, or a fraction as 5/3. Only what is written is rounded, by the scale's digits."""
 
 from __future__ import annotations
 

@@ -1,6 +1,5 @@
 """What the pages of OGC API - Features have in common, over a store or a register: the landing page, the systems of
-coordinates, and the box of a question.
-"""
+coordinates, and the box of a question."""
 
 from __future__ import annotations
 

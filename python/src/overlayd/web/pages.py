@@ -2,8 +2,7 @@
 
 A page is a method of an object whose class says it by `page`. It takes the parts of its route by name, and its words,
 with _ for -; f, the form of the answer, is a word of each page and handed to none. `Front` gives a page its route,
-openapi.py its description.
-"""
+openapi.py its description."""
 
 from __future__ import annotations
 

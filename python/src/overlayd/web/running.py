@@ -1,5 +1,4 @@
-"""Runs a front as the words of its command say: what it opens, what ends it, and with which status.
-"""
+"""Runs a front as the words of its command say: what it opens, what ends it, and with which status."""
 
 from __future__ import annotations
 

@@ -1,8 +1,7 @@
 """From the boundary of a layer to features of the web.
 
 Pieces are joined into rings by geometry/rings.py. What is asked of a feature is worked out on its exact corners; only
-what is written is rounded, by the scale.
-"""
+what is written is rounded, by the scale."""
 
 from __future__ import annotations
 

@@ -102,12 +102,9 @@ def listed(layers: Sequence[Layer], salt: str) -> dict[str, Listed]:
 class View:
     """The layers of one version by name, in their order, and a session that is asked of them while a hold is shared.
 
-    extents: the boxes that were worked out before, by revision; none where a layer is empty. version: its number.
-    """
+    extents: the boxes that were worked out before, by revision; none where a layer is empty. version: its number."""
 
-    def __init__(
-        self, one: Session, layers: Mapping[str, Listed], extents: Kept[str, list[Box]], version: int
-    ) -> None:
+    def __init__(self, one: Session, layers: Mapping[str, Listed], extents: Kept[str, list[Box]], version: int) -> None:
         self.layers, self.version = layers, version
         self._one, self._extents = one, extents
 

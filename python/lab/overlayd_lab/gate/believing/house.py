@@ -1,7 +1,6 @@
 """The definitions and the types of a tree and of the kit that it stands on, and what a contract reaches of them.
 
-A key names a definition by its crate, its module and itself; ('', crate, type) is a type or a trait of the sources.
-"""
+A key names a definition by its crate, its module and itself; ('', crate, type) is a type or a trait of the sources."""
 
 from __future__ import annotations
 
@@ -35,8 +34,7 @@ class Call:
 class Link:
     """A definition, or a field of one, that calls hand to one another, and that therefore is not followed.
 
-    It is followed all the same where it is reached from the definitions of `but`.
-    """
+    It is followed all the same where it is reached from the definitions of `but`."""
 
     crate: str
     module: str
@@ -71,8 +69,7 @@ class Pin:
 @dataclasses.dataclass(frozen=True)
 class Cut:
     """What is not followed: fields of some definitions, some definitions whole, and clauses of calls and of traits by
-    their names.
-    """
+    their names."""
 
     fields: frozenset[tuple[Key, str]] = frozenset()
     words: frozenset[Key] = frozenset()
@@ -392,8 +389,7 @@ class House:
 
     def of_parts(self, calls: list[Call], parts: Cut) -> tuple[Reach, Cut]:
         """What some promises reach, each a field of a claim, a claim whole or a clause of a call (of a trait all of its
-        clauses), and what that leaves out: the other fields of these claims.
-        """
+        clauses), and what that leaves out: the other fields of these claims."""
         heads = {key for key, _ in parts.fields}
         others = {(key, field) for key in heads for field in fields_of(self.module(key[:2]).definitions[key[2]].shown)}
         cut = Cut(frozenset(others - parts.fields))
@@ -418,8 +414,7 @@ class House:
 
     def cut(self, parts: tuple[str, ...]) -> Cut:
         """What a row leaves out, or what it has: `Record.field`, `Word`, each after its module where it takes that, or
-        `call: clause` and `Trait: clause`.
-        """
+        `call: clause` and `Trait: clause`."""
         fields: set[tuple[Key, str]] = set()
         words: set[Key] = set()
         clauses: set[tuple[str, str]] = set()

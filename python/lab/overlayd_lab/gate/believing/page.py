@@ -41,8 +41,7 @@ class Law:
 @dataclasses.dataclass(frozen=True)
 class Row:
     """What several calls say together: its title, the calls, what it is, and the promises of these that it leaves out,
-    or those that alone it has.
-    """
+    or those that alone it has."""
 
     title: str
     calls: tuple[str, ...]
@@ -280,8 +279,7 @@ def seen_as(house: House, crate: str, name: str) -> str:
 
 def with_numbers(readme: str, page_text: str) -> str:
     """README.md with the numbers of the page: of a point, of the sentence in bold, of a run's crash, and of all,
-    without what stands beside and with it.
-    """
+    without what stands beside and with it."""
     numbers = iter(ROW.findall(page_text))
 
     def counted(found: re.Match[str]) -> str:

@@ -20,8 +20,7 @@ NO_DEFINITION = ("use", "mod", "module", "infixl", "infixr", "infix", "unfolding
 class Definition:
     """A definition: the line at which it begins, its lines with the sentence above it, and those lines as they stand.
 
-    `within` is the head of the `module _` that has it, or nothing.
-    """
+    `within` is the head of the `module _` that has it, or nothing."""
 
     name: str
     at: int
@@ -172,8 +171,7 @@ def fields_of(shown: list[str]) -> set[str]:
 
 def without(shown: list[str], fields: set[str]) -> list[str]:
     """The lines of a definition without some of its fields and the comments above these; a line at the end names them,
-    as the sentence above speaks of them too.
-    """
+    as the sentence above speaks of them too."""
     kept: list[str] = []
     gone: list[str] = []
     margin = ""

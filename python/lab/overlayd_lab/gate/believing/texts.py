@@ -74,8 +74,7 @@ def marked(lines: list[str], title: str, cut: Cut) -> list[str]:
 
 class Body:
     """The definitions of a text, each type before the first file that needs it, and what is proved after the last file
-    of which it speaks.
-    """
+    of which it speaks."""
 
     def __init__(self, reading: Reading, title: str) -> None:
         calls, reach = reading.row(title)
@@ -187,8 +186,7 @@ def alike(found: dict[str, list[str]]) -> list[str]:
 
 def definitions(house: House, file: File, names: list[str], cut: Cut) -> list[str]:
     """Some definitions of a file, each with the sentence above it, in the `module` that has it; a field that is a link
-    word says so, and a line names those that are left out.
-    """
+    word says so, and a line names those that are left out."""
     hidden = {(link.key, link.field) for link in house.links if link.field}
     lines = [f"==== crates/{file[0]}/specs/{file[1].replace('.', '/')}.antt", ""]
     within = ""
