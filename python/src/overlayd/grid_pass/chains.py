@@ -56,7 +56,7 @@ def found(steps: Steps, hot: Hot) -> Hits:
     """Which steps meet which hot pixels."""
     which, points = [np.zeros(0, np.int64)], [np.zeros(0, np.int64)]
     for step, point in candidates(steps, hot.at):
-        met = meets(steps, step, Points(hot.at.x[point], hot.at.y[point]), hot.half[point])
+        met = meets(steps, step, hot, point)
         which.append(step[met])
         points.append(point[met])
     step, point = np.concatenate(which), np.concatenate(points)

@@ -124,16 +124,17 @@ def candidates_of(steps: Steps, cells: Cells, which: Numbers, parts: Numbers) ->
         yield np.repeat(step[at], many), cells.order[spans(begin, many)]
 
 
-def meets(steps: Steps, step: Numbers, point: Points, half: Numbers) -> Numbers:
-    """Which of some steps meet the pixel of the point beside each: where their boxes do, and the pixel's corners are
-    not all on one side of the step."""
-    px, py = point.x * UNIT, point.y * UNIT
-    ax, ay, bx, by = steps.ax[step], steps.ay[step], steps.bx[step], steps.by[step]
-    met: Numbers = ((bx > px - half) & (ax < px + half) &
-                    (np.maximum(ay, by) > py - half) & (np.minimum(ay, by) < py + half))
-    at = np.flatnonzero(met)
-    met[at] = crosses(bx[at] - ax[at], by[at] - ay[at], px[at] - ax[at], py[at] - ay[at], half[at])
-    return met
+def meets(steps: Steps, step: Numbers, hot: Hot, point: Numbers) -> Numbers:
+    """The places at which some steps meet the pixel of the hot point beside each: where their boxes do, and the pixel's
+    corners are not all on one side of the step."""
+    px, half = hot.at.x[point] * UNIT, hot.half[point]
+    at = np.flatnonzero((steps.bx[step] > px - half) & (steps.ax[step] < px + half))
+    px, half, step = px[at], half[at], step[at]
+    py, ax, ay, bx, by = hot.at.y[point[at]] * UNIT, steps.ax[step], steps.ay[step], steps.bx[step], steps.by[step]
+    met = np.flatnonzero((np.maximum(ay, by) > py - half) & (np.minimum(ay, by) < py + half))
+    dx, dy, px, py = (one[met] for one in (bx - ax, by - ay, px - ax, py - ay))
+    found: Numbers = at[met[crosses(dx, dy, px, py, half[met])]]
+    return found
 
 
 def crosses(dx: Numbers, dy: Numbers, px: Numbers, py: Numbers, half: Numbers) -> Numbers:
