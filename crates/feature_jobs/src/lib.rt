@@ -7,7 +7,6 @@ mod dealing;
 mod expressions;
 mod fault;
 mod known;
-mod locating;
 mod meeting;
 mod outlining;
 mod pair;

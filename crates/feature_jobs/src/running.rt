@@ -4,13 +4,13 @@ use crate::dealing::{Dealt, deal_out};
 use crate::expressions::within_core;
 use crate::fault::JobFault;
 use crate::known::{Knowing, all_known, known_at};
-use crate::locating::locate;
 use crate::pair::{PairFound, pair};
 use crate::relation::{PairSteps, pair_steps};
 use crate::reply::{Reply, add_point, cells_row, fault_row, pair_row, row_size};
 use crate::rings::form_in;
 use block_reading::{Block, BlockFault, Core, Job, Member, Queries};
 use boundary_outlines::Outline;
+use feature_spots::spot_number;
 use feature_windows::{Features, Found, Near};
 use layer_expr::StepList;
 use row_writing::{Answering, write_rows};
@@ -86,8 +86,9 @@ fn point_rows(
     let Some(rings) = ground.features.rings_of(feature) else {
         return Ok(rows);
     };
+    let (counts, points) = rings.lent();
     for point in queries.points() {
-        add_point(&mut rows, locate(rings, point).number())?;
+        add_point(&mut rows, spot_number(counts, points, point))?;
     }
     Ok(rows)
 }
