@@ -1,7 +1,7 @@
 //! What is known of a feature before any job: its area, and the box of its boundary.
 use crate::expressions::of_two;
 use crate::fault::JobFault;
-use crate::stars::star;
+use crate::simple_rings::simple;
 use block_reading::Core;
 use exact_point::HPoint;
 use feature_windows::{
@@ -105,7 +105,7 @@ fn known_of(
             is_plain: false,
         });
     }
-    if let Some(found) = star(features, feature, &core) {
+    if let Some(found) = simple(features, feature, &core) {
         return Ok(Known {
             found,
             extent: core,

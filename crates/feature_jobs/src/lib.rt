@@ -14,7 +14,8 @@ mod relation;
 mod reply;
 mod rings;
 mod running;
-mod stars;
+mod simple_rings;
+mod steps;
 mod text;
 
 pub use fault::JobFault;

@@ -1,7 +1,7 @@
 //! How two features lie to each other by their steps alone, where no pass is needed: where no step of one meets one of the
 //! other, each ring of one lies off the other or inside it as a whole.
 use crate::known::Known;
-use crate::stars::seen_from;
+use crate::steps::{Step, steps_meet};
 use block_reading::{Core, FarFraction, FarPoint};
 use feature_spots::{Spot, locate};
 use feature_windows::{Features, Rings, is_within, parted};
@@ -22,45 +22,6 @@ pub(crate) enum Meeting {
     Met,
     /// They do not say which of these it is.
     Unknown,
-}
-
-/// A step of a ring.
-#[derive(Clone, Copy, Debug)]
-struct Step {
-    from: FarPoint,
-    to: FarPoint,
-}
-
-/// The product, which fits.
-fn product(a: i64, b: i64) -> i128 {
-    i128::from(a).wrapping_mul(i128::from(b))
-}
-
-/// Positive where a point lies on the left of a step, negative on its right, 0 where it lies on its line.
-fn side_of_line(step: &Step, p: FarPoint) -> i128 {
-    let (way, at) = (seen_from(step.to, step.from), seen_from(p, step.from));
-    product(way.x, at.y).wrapping_sub(product(way.y, at.x))
-}
-
-/// Whether a step has both ends of another on one side of its line.
-fn is_beside(step: &Step, other: &Step) -> bool {
-    let (from, to) = (side_of_line(step, other.from), side_of_line(step, other.to));
-    (from < 0 && to < 0) || (from > 0 && to > 0)
-}
-
-/// Whether two spans, the ends of each in any order, have a number in common.
-fn spans_meet(a: i64, b: i64, c: i64, d: i64) -> bool {
-    let is_under = a < c && a < d && b < c && b < d;
-    let is_over = a > c && a > d && b > c && b > d;
-    !is_under && !is_over
-}
-
-/// Whether two steps have a point in common.
-fn steps_meet(one: &Step, other: &Step) -> bool {
-    spans_meet(one.from.x, one.to.x, other.from.x, other.to.x)
-        && spans_meet(one.from.y, one.to.y, other.from.y, other.to.y)
-        && !is_beside(one, other)
-        && !is_beside(other, one)
 }
 
 /// Whether a step lies off a core on one side.

@@ -1,21 +1,17 @@
-//! Features of one ring that goes once round the middle of its box: such a ring is simple, so that no pass is needed to
-//! know its area, and all of its steps are boundary.
+//! Features of one ring that is simple, as no two of its few steps meet, or as it goes once round the middle of its box: no
+//! pass is needed to know its area, and all of its steps are boundary.
+use crate::steps::{Step, leads_back, seen_from, steps_meet};
 use block_reading::{Core, FarPoint};
 use feature_windows::{Features, Found, parted};
 
 /// A box is less wide and high than this, so that products of ways in it fit 64 bits.
 const WIDE_MAX: i64 = 1073741824;
 
+/// The most steps of a ring that are looked at two by two.
+const STEPS_MAX: usize = 64;
+
 /// Into how many parts a unit square is divided.
 const PARTS: i128 = 1099511627776;
-
-/// A point, seen from another. Coordinates are far below the ends of 64 bits.
-pub(crate) fn seen_from(p: FarPoint, from: FarPoint) -> FarPoint {
-    FarPoint {
-        x: p.x.wrapping_sub(from.x),
-        y: p.y.wrapping_sub(from.y),
-    }
-}
 
 /// The middle of a box.
 fn middle(core: &Core) -> FarPoint {
@@ -79,13 +75,59 @@ fn sweep(first: FarPoint, others: &[FarPoint], middle: FarPoint) -> (Swept, FarP
     (so_far, from)
 }
 
-/// Twice the area of a closed ring that goes once round a point, each of its steps on the same side of it.
-fn star_area(ring: &[FarPoint], middle: FarPoint) -> Option<i128> {
+/// Whether a step of a ring meets none of those after it, but for the end that the next one has too, and the first one
+/// and the last one.
+fn is_clear(step: &Step, after: &[FarPoint], is_first: bool) -> bool {
+    let mut from = step.to;
+    let mut left = after.len();
+    for to in after {
+        let next = Step { from, to: *to };
+        let is_wrong = if left == after.len() {
+            leads_back(step, &next)
+        } else if is_first && left == 1 {
+            leads_back(&next, step)
+        } else {
+            steps_meet(step, &next)
+        };
+        if is_wrong {
+            return false;
+        }
+        from = *to;
+        left = left.saturating_sub(1);
+    }
+    true
+}
+
+/// Whether no two steps of a ring meet but neighbours at the end that both have; not of a ring of many steps.
+fn is_simple(first: FarPoint, others: &[FarPoint]) -> bool {
+    if others.len() < 3 || others.len() > STEPS_MAX {
+        return false;
+    }
+    let mut from = first;
+    let mut rest = others;
+    for _ in 0..others.len() {
+        let Some((to, after)) = rest.split_first() else {
+            return true;
+        };
+        if !is_clear(&Step { from, to: *to }, after, rest.len() == others.len()) {
+            return false;
+        }
+        from = *to;
+        rest = after;
+    }
+    true
+}
+
+/// Twice the area of a closed ring that goes once round a point, each of its steps on the same side of it, or is simple.
+fn ring_area(ring: &[FarPoint], middle: FarPoint) -> Option<i128> {
     let (first, others) = ring.split_first()?;
     let (all, end) = sweep(*first, others, middle);
     let begin = seen_from(*first, middle);
+    if end.x != begin.x || end.y != begin.y {
+        return None;
+    }
     let is_round = all.lefts == others.len() || all.rights == others.len();
-    if !is_round || all.ups != 1 || end.x != begin.x || end.y != begin.y {
+    if !(is_round && all.ups == 1) && !is_simple(*first, others) {
         return None;
     }
     Some(if all.twice < 0 {
@@ -95,14 +137,14 @@ fn star_area(ring: &[FarPoint], middle: FarPoint) -> Option<i128> {
     })
 }
 
-/// What a feature encloses, if it is one ring that goes once round the middle of its box.
-pub(crate) fn star(features: &Features, feature: usize, extent: &Core) -> Option<Found> {
+/// What a feature encloses, if it is one ring that is known to be simple.
+pub(crate) fn simple(features: &Features, feature: usize, extent: &Core) -> Option<Found> {
     let (counts, points) = features.rings_of(feature)?.lent();
     if counts.len() != 1 || !is_small(extent) {
         return None;
     }
     let (ring, _) = parted(points, counts[0]);
-    let twice = star_area(ring, middle(extent))?;
+    let twice = ring_area(ring, middle(extent))?;
     Some(Found {
         twice: twice.wrapping_mul(PARTS),
         bound: 0,
