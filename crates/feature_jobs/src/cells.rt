@@ -1,4 +1,7 @@
 //! Cells of an expression.
+ghost use Rattle.std.specs.Prelude.{◌≡◌, map, IfOk};
+ghost use Rattle.feature_jobs.specs.Answers.{near_of, IsFoundOf};
+
 use crate::fault::JobFault;
 use crate::outlining::outline_in;
 use block_reading::{Core, Member};
@@ -8,7 +11,9 @@ use layer_expr::StepList;
 use std::alloc::{AllocError, Global};
 
 /// The members of a job, as features near its core.
-fn nears(alloc: Global, members: &[Member]) -> Result<Vec<Near>, AllocError> {
+fn nears(alloc: Global, members: &[Member]) -> Result<Vec<Near>, AllocError>
+    ensures { IfOk result (λ list. list.items ≡ map near_of members.now) }
+{
     let mut list = Vec::new(alloc);
     for one in members {
         list.push(Near {
@@ -29,7 +34,9 @@ pub(crate) fn cells(
     members: &[Member],
     limit: usize,
     wants: bool,
-) -> Result<(Found, Option<Outline>), JobFault> {
+) -> Result<(Found, Option<Outline>), JobFault>
+    ensures { IfOk result (λ both. IsFoundOf features.now core.now members.now steps.now both.0) }
+{
     let near = nears(alloc, members)?;
     let count = usize::from(steps.bases()).saturating_sub(1);
     let list = windows(alloc, features, &near, count, core, limit)?;

@@ -1,4 +1,8 @@
 //! Why a job has no answer.
+ghost use Rattle.std.specs.Prelude.{◌≡◌};
+ghost use Rattle.feature_jobs.specs.Fault.{code_of};
+ghost use Rattle.feature_jobs.specs.declared.fault.JobFault.TheVariants as faults;
+
 use boundary_outlines::OutlineFault;
 use feature_windows::WindowsFault;
 use layer_expr::ExprFault;
@@ -26,7 +30,9 @@ pub enum JobFault {
 
 impl JobFault {
     /// The number of the fault.
-    pub fn code(&self) -> u32 {
+    pub fn code(&self) -> u32
+        ensures { result ≡ code_of self.now }
+    {
         match self {
             JobFault::OutOfMemory => 40,
             JobFault::BadExpression => 76,
@@ -41,12 +47,16 @@ impl JobFault {
 }
 
 impl From<AllocError> for JobFault {
+    ghost from_gives = { λ _ e. e ≡ faults.OutOfMemory };
+
     fn from(_e: AllocError) -> JobFault {
         JobFault::OutOfMemory
     }
 }
 
 impl<T: Drop> From<AllocFailed<T>> for JobFault {
+    ghost from_gives = { λ _ e. e ≡ faults.OutOfMemory };
+
     fn from(_e: AllocFailed<T>) -> JobFault {
         JobFault::OutOfMemory
     }

@@ -10,6 +10,7 @@ mod known;
 mod meeting;
 mod outlining;
 mod pair;
+mod points;
 mod relation;
 mod reply;
 mod rings;

@@ -1,12 +1,16 @@
 //! Replies to blocks, as bytes; docs/FORMAT.md has the form.
-ghost use Rattle.std.specs.Prelude.{◌<◌};
+ghost use Rattle.std.specs.Prelude.{◌≡◌, ◌<◌, ◌/◌, ◌++◌, length, IfOk, OnOk};
+ghost use Rattle.feature_jobs.specs.Bytes.{small, wide};
+ghost use Rattle.feature_jobs.specs.Rows.{fault_row, cells_head, HasFound};
+ghost use Rattle.feature_jobs.specs.Reply.{refused, row_size, corner_size, length_of, head_of, bytes_of};
 
-use crate::bytes::{add_i128, add_u32, add_u64, small};
+use crate::bytes::{add_i128, add_u32, add_u64, add_words, small};
 use crate::pair::PairFound;
-use crate::rings::{RingForm, add_outline, ring_count};
+use crate::rings::{RingForm, outline_bytes, ring_count};
 use boundary_outlines::Outline;
 use feature_windows::Found;
 use std::alloc::{AllocError, Global};
+use std::marker::Model;
 
 /// What a reply begins with, after its length: OVFR.
 const MAGIC: u32 = 1380341327;
@@ -30,6 +34,22 @@ pub struct Reply {
     pub(crate) corners: Vec<u8>,
 }
 
+impl Model for Reply {
+    ghost use Rattle.feature_jobs.specs.Reply as terms;
+
+    ghost Value = { terms.Reply };
+
+    ghost view = { λ r. record {
+      kind = r.kind;
+      flags = r.flags;
+      fault = r.fault;
+      job = r.job;
+      rows = r.rows.items;
+      rings = r.rings.items;
+      corners = r.corners.items;
+    } };
+}
+
 /// The greater number.
 fn most(a: i128, b: i128) -> i128 {
     if a < b { b } else { a }
@@ -42,22 +62,48 @@ pub(crate) fn pair_row(
     form: &RingForm,
 ) -> Result<Vec<u8>, AllocError> {
     let mut row = Vec::new(alloc);
-    add_u32(&mut row, 0)?;
-    add_u32(&mut row, one.relation.number())?;
-    add_u32(&mut row, if one.is_proper { 1 } else { 0 })?;
-    add_u32(&mut row, small(one.both.pieces))?;
-    add_u32(&mut row, small(one.both.windows))?;
-    add_u32(&mut row, ring_count(&one.outline))?;
-    add_u64(&mut row, 0)?;
+    let proper = if one.is_proper { 1 } else { 0 };
+    add_words(
+        &mut row,
+        &[
+            0,
+            one.relation.number(),
+            proper,
+            small(one.both.pieces),
+            small(one.both.windows),
+            ring_count(&one.outline),
+            0,
+            0,
+        ],
+    )?;
+    let bound = most(one.both.bound, most(one.a.bound, one.b.bound));
     add_i128(&mut row, one.a.twice)?;
     add_i128(&mut row, one.b.twice)?;
     add_i128(&mut row, one.both.twice)?;
-    add_i128(
-        &mut row,
-        most(one.both.bound, most(one.a.bound, one.b.bound)),
-    )?;
-    add_outline(&mut row, &one.outline, form)?;
+    add_i128(&mut row, bound)?;
+    let rest = outline_bytes(alloc, &one.outline, form)?;
+    row.extend_from_slice(&rest)?;
     Ok(row)
+}
+
+/// What a core's row begins with.
+fn cells_head(alloc: Global, found: &Found, rings: u32) -> Result<Vec<u8>, AllocError>
+    ensures { IfOk result (λ row. row.items ≡ cells_head found.now rings) }
+{
+    let mut row = Vec::new(alloc);
+    add_words(
+        &mut row,
+        &[0, small(found.pieces), small(found.windows), rings],
+    )?;
+    Ok(row)
+}
+
+/// Adds twice an area, and how far it may be off.
+fn add_area(to: &mut Vec<u8>, found: &Found) -> Result<(), AllocError>
+    ensures { OnOk result (to.new.items ≡ (to.old.items ++ wide found.now.twice) ++ wide found.now.bound) }
+{
+    add_i128(to, found.twice)?;
+    add_i128(to, found.bound)
 }
 
 /// The row of a core with its rings and corners.
@@ -66,36 +112,31 @@ pub(crate) fn cells_row(
     found: &Found,
     outline: &Option<Outline>,
     form: &RingForm,
-) -> Result<Vec<u8>, AllocError> {
-    let mut row = Vec::new(alloc);
-    add_u32(&mut row, 0)?;
-    add_u32(&mut row, small(found.pieces))?;
-    add_u32(&mut row, small(found.windows))?;
-    add_u32(&mut row, ring_count(outline))?;
-    add_i128(&mut row, found.twice)?;
-    add_i128(&mut row, found.bound)?;
-    add_outline(&mut row, outline, form)?;
+) -> Result<Vec<u8>, AllocError>
+    ensures { IfOk result (λ row. HasFound found.now row.items) }
+{
+    let mut row = cells_head(alloc, found, ring_count(outline))?;
+    add_area(&mut row, found)?;
+    let rest = outline_bytes(alloc, outline, form)?;
+    row.extend_from_slice(&rest)?;
     Ok(row)
 }
 
-/// Adds the row of a point.
-pub(crate) fn add_point(to: &mut Vec<u8>, number: u32) -> Result<(), AllocError> {
-    add_u32(to, number)
-}
-
 /// A row of so many bytes that names a fault.
-pub(crate) fn fault_row(alloc: Global, fault: u32, size: usize) -> Result<Vec<u8>, AllocError> {
+pub(crate) fn fault_row(alloc: Global, fault: u32, size: usize) -> Result<Vec<u8>, AllocError>
+    ensures { IfOk result (λ row. row.items ≡ fault_row fault size) }
+{
     let mut row = Vec::new(alloc);
     add_u32(&mut row, fault)?;
-    for _ in 4..size {
-        row.push(0)?;
-    }
+    let zeros = vec![in alloc; 0_u8; size.saturating_sub(4)]?;
+    row.extend_from_slice(&zeros)?;
     Ok(row)
 }
 
 /// How many bytes a row of a kind has.
 pub(crate) fn row_size(kind: u32) -> usize
-    ensures { 0 < result }
+    ensures value { result ≡ row_size kind }
+    ensures some { 0 < result }
 {
     match kind {
         0 => 96,
@@ -106,14 +147,17 @@ pub(crate) fn row_size(kind: u32) -> usize
 
 /// How many bytes a corner has, by a block's flags.
 pub(crate) fn corner_size(flags: u32) -> usize
-    ensures { 0 < result }
+    ensures value { result ≡ corner_size flags }
+    ensures some { 0 < result }
 {
     if flags / 2 % 2 == 1 { 48 } else { 16 }
 }
 
 impl Reply {
     /// The reply to a block that is refused.
-    pub(crate) fn refused(alloc: Global, fault: u32, job: u32) -> Reply {
+    pub(crate) fn refused(alloc: Global, fault: u32, job: u32) -> Reply
+        ensures { result ≡ refused fault job }
+    {
         Reply {
             kind: 0,
             flags: 0,
@@ -126,39 +170,49 @@ impl Reply {
     }
 
     /// How many rows there are.
-    fn count(&self) -> u32 {
+    fn count(&self) -> u32
+        ensures { result ≡ small (length self.now.rows / row_size self.now.kind) }
+    {
         small(self.rows.len() / row_size(self.kind))
     }
 
     /// How many bytes the whole has.
-    fn length(&self) -> u64 {
+    fn length(&self) -> u64
+        ensures { result ≡ length_of self.now }
+    {
         let rows = FIXED.saturating_add(self.rows.len() as u64);
         let rings = rows.saturating_add(self.rings.len() as u64);
         rings.saturating_add(self.corners.len() as u64)
     }
 
     /// The bytes before the rows.
-    fn head(&self, alloc: Global) -> Result<Vec<u8>, AllocError> {
+    fn head(&self, alloc: Global) -> Result<Vec<u8>, AllocError>
+        ensures { IfOk result (λ head. head.items ≡ head_of self.now) }
+    {
         let mut head = Vec::new(alloc);
         add_u64(&mut head, self.length())?;
-        add_u32(&mut head, MAGIC)?;
-        add_u32(&mut head, 1)?;
-        add_u32(&mut head, self.kind)?;
-        add_u32(&mut head, self.flags)?;
-        add_u32(&mut head, self.count())?;
-        add_u32(&mut head, small(self.rings.len() / RING))?;
-        add_u32(
+        add_words(
             &mut head,
-            small(self.corners.len() / corner_size(self.flags)),
+            &[
+                MAGIC,
+                1,
+                self.kind,
+                self.flags,
+                self.count(),
+                small(self.rings.len() / RING),
+                small(self.corners.len() / corner_size(self.flags)),
+                self.fault,
+                self.job,
+                0,
+            ],
         )?;
-        add_u32(&mut head, self.fault)?;
-        add_u32(&mut head, self.job)?;
-        add_u32(&mut head, 0)?;
         Ok(head)
     }
 
     /// The whole reply: a head, the rows, the rings, the corners, an end mark.
-    pub fn bytes(&self, alloc: Global) -> Result<Vec<u8>, AllocError> {
+    pub fn bytes(&self, alloc: Global) -> Result<Vec<u8>, AllocError>
+        ensures bytes { IfOk result (λ all. all.items ≡ bytes_of self.now) }
+    {
         let mut all = self.head(alloc)?;
         all.extend_from_slice(&self.rows)?;
         all.extend_from_slice(&self.rings)?;

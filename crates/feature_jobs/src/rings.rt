@@ -2,7 +2,7 @@
 use crate::bytes::{add_i128, add_u32, add_u64, small};
 use block_reading::Core;
 use boundary_outlines::{Outline, Place, nearest};
-use std::alloc::AllocError;
+use std::alloc::{AllocError, Global};
 
 /// What the rings of an outline are, as a block wants them: whether corners are fractions, and from where they are seen.
 #[derive(Clone, Copy, Debug)]
@@ -51,16 +51,17 @@ pub(crate) fn ring_count(outline: &Option<Outline>) -> u32 {
     }
 }
 
-/// Adds the rings of an outline, if there is one, the row of each left open, then all their corners.
-pub(crate) fn add_outline(
-    to: &mut Vec<u8>,
+/// The rings of an outline, if there is one, the row of each left open, then all their corners.
+pub(crate) fn outline_bytes(
+    alloc: Global,
     outline: &Option<Outline>,
     form: &RingForm,
-) -> Result<(), AllocError> {
-    match outline {
-        Some(own) => add_rings(to, own, form),
-        None => Ok(()),
+) -> Result<Vec<u8>, AllocError> {
+    let mut bytes = Vec::new(alloc);
+    if let Some(own) = outline {
+        add_rings(&mut bytes, own, form)?;
     }
+    Ok(bytes)
 }
 
 /// Adds rings, the row of each left open, then all their corners.

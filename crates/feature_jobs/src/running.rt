@@ -1,28 +1,44 @@
 //! The jobs of a block, answered in order.
+ghost use Rattle.std.specs.Prelude.{◌≡◌, ◌≤◌, [], false, IfOk, IfErr, IsErr, IsOk};
+ghost use Rattle.block_reading.specs.Block.{features_of};
+ghost use Rattle.block_reading.specs.Fault.{code_of as refusal_of, job_of};
+ghost use Rattle.feature_jobs.specs.Answers.{AreRows, IsRow, IsCellsRow, WasFound, IsAnswered, IsReply, IsSpelled, has_rings, points_reply, job_number};
+ghost use Rattle.feature_jobs.specs.Reply.{refused, no_job, row_size};
+ghost use Rattle.feature_jobs.specs.Fault.{code_of};
+ghost use Rattle.feature_jobs.specs.Rows.{IsFaultRow};
+ghost use Rattle.feature_jobs.specs.declared.fault.JobFault.TheVariants as faults;
+
+use crate::bytes::small;
 use crate::cells::cells;
 use crate::dealing::{Dealt, deal_out};
 use crate::expressions::within_core;
 use crate::fault::JobFault;
 use crate::known::{Knowing, all_known, known_at};
 use crate::pair::{PairFound, pair};
+use crate::points::point_rows;
 use crate::relation::{PairSteps, pair_steps};
-use crate::reply::{Reply, add_point, cells_row, fault_row, pair_row, row_size};
+use crate::reply::{Reply, cells_row, fault_row, pair_row, row_size};
 use crate::rings::form_in;
-use block_reading::{Block, BlockFault, Core, Job, Member, Queries};
+use block_reading::{Block, BlockFault, Core, Head, Job, Member};
 use boundary_outlines::Outline;
-use feature_spots::spot_number;
 use feature_windows::{Features, Found, Near};
 use layer_expr::StepList;
 use row_writing::{Answering, write_rows};
 use std::alloc::{AllocError, Global};
 
+/// What the jobs of a kind share.
+#[derive(Debug, Drop)]
+enum Shared {
+    Pairs(Vec<Knowing>, PairSteps),
+    Cells(StepList),
+    Points,
+}
+
 /// What all jobs of a block share.
 #[derive(Debug, Drop)]
 struct Ground {
     features: Features,
-    known: Vec<Knowing>,
-    pairs: PairSteps,
-    cells: Option<StepList>,
+    shared: Shared,
     limit: usize,
     outlines: bool,
     fractions: bool,
@@ -30,8 +46,11 @@ struct Ground {
 
 /// The answer to a pair.
 fn pair_of(alloc: Global, ground: &Ground, a: usize, b: usize) -> Result<PairFound, JobFault> {
-    let first = known_at(&ground.known, a)?;
-    let second = known_at(&ground.known, b)?;
+    let Shared::Pairs(known, steps) = &ground.shared else {
+        return Err(JobFault::BadExpression);
+    };
+    let first = known_at(known, a)?;
+    let second = known_at(known, b)?;
     let near = [
         Near {
             feature: a,
@@ -48,7 +67,7 @@ fn pair_of(alloc: Global, ground: &Ground, a: usize, b: usize) -> Result<PairFou
         &near,
         &first,
         &second,
-        &ground.pairs,
+        steps,
         ground.limit,
         ground.outlines,
     )
@@ -60,101 +79,137 @@ fn cells_of(
     ground: &Ground,
     core: &Core,
     members: &[Member],
-) -> Result<(Found, Option<Outline>), JobFault> {
-    match &ground.cells {
-        Some(steps) => cells(
-            alloc,
-            &ground.features,
-            steps,
-            core,
-            members,
-            ground.limit,
-            ground.outlines,
-        ),
-        None => Err(JobFault::BadExpression),
-    }
-}
-
-/// The rows of points.
-fn point_rows(
-    alloc: Global,
-    ground: &Ground,
-    feature: usize,
-    queries: &Queries,
-) -> Result<Vec<u8>, AllocError> {
-    let mut rows = Vec::new(alloc);
-    let Some(rings) = ground.features.rings_of(feature) else {
-        return Ok(rows);
+) -> Result<(Found, Option<Outline>), JobFault>
+    ensures { IfOk result (λ both. WasFound ground.now.features core.now members.now both.0) }
+{
+    let Shared::Cells(steps) = &ground.shared else {
+        return Err(JobFault::BadExpression);
     };
-    let (counts, points) = rings.lent();
-    for point in queries.points() {
-        add_point(&mut rows, spot_number(counts, points, point))?;
-    }
-    Ok(rows)
+    cells(
+        alloc,
+        &ground.features,
+        steps,
+        core,
+        members,
+        ground.limit,
+        ground.outlines,
+    )
 }
 
 /// A row of a fault, but for want of memory.
-fn row_of_fault(alloc: Global, fault: JobFault, kind: u32) -> Result<Vec<u8>, AllocError> {
+fn row_of_fault(alloc: Global, fault: JobFault, kind: u32) -> Result<Vec<u8>, AllocError>
+    ensures { IfOk result (λ row. IsFaultRow (row_size kind) row.items) }
+{
     match fault {
         JobFault::OutOfMemory => Err(AllocError),
         other => fault_row(alloc, other.code(), row_size(kind)),
     }
 }
 
+/// The row of a pair.
+fn row_of_pair(alloc: Global, ground: &Ground, a: u32, b: u32) -> Result<Vec<u8>, AllocError> {
+    match pair_of(alloc, ground, a as usize, b as usize) {
+        Ok(one) => pair_row(alloc, &one, &form_in(&one.core, ground.fractions)),
+        Err(fault) => row_of_fault(alloc, fault, 0),
+    }
+}
+
+/// The row of a core.
+fn row_of_cells(
+    alloc: Global,
+    ground: &Ground,
+    core: &Core,
+    members: &[Member],
+) -> Result<Vec<u8>, AllocError>
+    ensures { IfOk result (λ row. IsCellsRow ground.now.features core.now members.now row.items) }
+{
+    match cells_of(alloc, ground, core, members) {
+        Ok((found, outline)) => cells_row(
+            alloc,
+            &found,
+            &outline,
+            &form_in(core, ground.fractions),
+        ),
+        Err(fault) => row_of_fault(alloc, fault, 1),
+    }
+}
+
 impl Answering<Job> for Ground {
-    ghost answers = { λ ground job row. Unit {0} };
+    ghost answers = { λ ground job row. IsRow ground.features job row };
 
     fn row(&self, alloc: Global, job: &Job) -> Result<Vec<u8>, AllocError> {
         match job {
-            Job::Pair(a, b) => match pair_of(alloc, self, *a as usize, *b as usize) {
-                Ok(one) => pair_row(alloc, &one, &form_in(&one.core, self.fractions)),
-                Err(fault) => row_of_fault(alloc, fault, 0),
-            },
-            Job::Cells(core, members) => match cells_of(alloc, self, core, members.members()) {
-                Ok((found, outline)) => cells_row(
-                    alloc,
-                    &found,
-                    &outline,
-                    &form_in(core, self.fractions),
-                ),
-                Err(fault) => row_of_fault(alloc, fault, 1),
-            },
-            Job::Locate(feature, queries) => point_rows(alloc, self, *feature as usize, queries),
+            Job::Pair(a, b) => row_of_pair(alloc, self, *a, *b),
+            Job::Cells(core, members) => row_of_cells(alloc, self, core, members.members()),
+            Job::Locate(feature, queries) => point_rows(
+                alloc,
+                &self.features,
+                *feature as usize,
+                queries.points(),
+            ),
         }
     }
 }
 
+/// What the jobs of the kind of a block share.
+fn shared_of(alloc: Global, block: &Block, features: &Features) -> Result<Shared, JobFault>
+    ensures points { 2 ≤ block.now.head.kind → IsOk result }
+{
+    let head = block.head();
+    match head.kind {
+        0 => {
+            let steps = pair_steps(alloc)?;
+            let known = all_known(alloc, features, head.limit as usize)?;
+            Ok(Shared::Pairs(known, steps))
+        }
+        1 => Ok(Shared::Cells(within_core(alloc, block.expression(), head.layers as usize)?)),
+        _ => Ok(Shared::Points),
+    }
+}
+
 /// What the jobs of a block share.
-fn ground_of(alloc: Global, block: &Block) -> Result<Ground, JobFault> {
+fn ground_of(alloc: Global, block: &Block) -> Result<Ground, JobFault>
+    ensures features { IfOk result (λ ground. ground.features ≡ features_of block.now.shapes) }
+    ensures points { 2 ≤ block.now.head.kind → IfErr result (λ fault. fault ≡ faults.OutOfMemory) }
+{
     let head = block.head();
     let features = Features::of(alloc, block.shapes())?;
-    let limit = head.limit as usize;
-    let pairs = pair_steps(alloc)?;
-    let known = if head.kind == 0 {
-        all_known(alloc, &features, limit)?
-    } else {
-        Vec::new(alloc)
-    };
-    let cells = if head.kind == 1 {
-        Some(within_core(alloc, block.expression(), head.layers as usize)?)
-    } else {
-        None
-    };
+    let shared = shared_of(alloc, block, &features)?;
     Ok(Ground {
         features,
-        known,
-        pairs,
-        cells,
-        limit,
+        shared,
+        limit: head.limit as usize,
         outlines: head.flags % 2 == 1,
         fractions: head.flags / 2 % 2 == 1,
     })
 }
 
+/// The rows of jobs, each with its rings and corners, in order.
+fn records_of(alloc: Global, ground: &Ground, jobs: &[Job]) -> Result<Vec<u8>, AllocError>
+    ensures { IfOk result (λ records. AreRows ground.now.features jobs.now records.items) }
+{
+    let mut records = Vec::new(alloc);
+    match write_rows(alloc, ground, jobs, &mut records) {
+        Ok(()) => Ok(records),
+        Err(_) => Err(AllocError),
+    }
+}
+
+/// Whether rows have rings.
+fn has_rings(head: &Head) -> bool
+    ensures { result ≡ has_rings head.now }
+{
+    head.flags % 2 == 1 && head.kind < 2
+}
+
 /// The records of a block as rows, rings and corners.
-fn parts_of(alloc: Global, block: &Block, records: Vec<u8>) -> Result<Dealt, AllocError> {
+fn parts_of(alloc: Global, block: &Block, records: Vec<u8>) -> Result<Dealt, AllocError>
+    ensures rows { IfOk result (λ parts. has_rings block.now.head ≡ false → parts.rows ≡ records) }
+    ensures rings { IfOk result (λ parts. has_rings block.now.head ≡ false → parts.rings.items ≡ []) }
+    ensures corners { IfOk result (λ parts. has_rings block.now.head ≡ false → parts.corners.items ≡ []) }
+{
     let head = block.head();
-    if head.flags % 2 == 1 && head.kind < 2 {
+    if has_rings(head) {
         return deal_out(alloc, &records, head.kind, head.flags, block.jobs().len());
     }
     Ok(Dealt {
@@ -165,56 +220,76 @@ fn parts_of(alloc: Global, block: &Block, records: Vec<u8>) -> Result<Dealt, All
 }
 
 /// The reply of these records.
-fn reply_of(alloc: Global, block: &Block, records: Vec<u8>) -> Result<Reply, AllocError> {
-    let Dealt {
-        rows,
-        rings,
-        corners,
-    } = parts_of(alloc, block, records)?;
+fn reply_of(alloc: Global, block: &Block, records: Vec<u8>) -> Result<Reply, AllocError>
+    requires { AreRows (features_of block.now.shapes) block.now.jobs records.items }
+    ensures { IfOk result (λ reply. IsAnswered block.now reply) }
+{
+    let parts = parts_of(alloc, block, records)?;
     let head = block.head();
     Ok(Reply {
         kind: head.kind,
         flags: head.flags,
         fault: 0,
         job: 0,
-        rows,
-        rings,
-        corners,
+        rows: parts.rows,
+        rings: parts.rings,
+        corners: parts.corners,
     })
 }
 
 /// The rows of a block.
-fn answered(alloc: Global, block: &Block) -> Result<Reply, JobFault> {
+fn answered(alloc: Global, block: &Block) -> Result<Reply, JobFault>
+    ensures answered { IfOk result (λ reply. IsAnswered block.now reply) }
+    ensures points { 2 ≤ block.now.head.kind → IfErr result (λ fault. fault ≡ faults.OutOfMemory) }
+{
     let ground = ground_of(alloc, block)?;
-    let mut rows = Vec::new(alloc);
-    match write_rows(alloc, &ground, block.jobs(), &mut rows) {
-        Ok(()) => Ok(reply_of(alloc, block, rows)?),
-        Err(_) => Err(JobFault::OutOfMemory),
+    let records = records_of(alloc, &ground, block.jobs())?;
+    Ok(reply_of(alloc, block, records)?)
+}
+
+/// The reply to a block that is refused for a fault, but for want of memory.
+fn refused_for(alloc: Global, fault: JobFault) -> Result<Reply, AllocError>
+    ensures memory { fault ≡ faults.OutOfMemory → IsErr result }
+    ensures reply { IfOk result (λ reply. reply ≡ refused (code_of fault) no_job) }
+{
+    match fault {
+        JobFault::OutOfMemory => Err(AllocError),
+        other => Ok(Reply::refused(alloc, other.code(), u32::MAX)),
     }
 }
 
 /// The reply to a block; where its expression is at fault, that it is refused.
-pub fn answer(alloc: Global, block: &Block) -> Result<Reply, AllocError> {
+pub fn answer(alloc: Global, block: &Block) -> Result<Reply, AllocError>
+    ensures reply { IfOk result (λ reply. IsReply block.now reply) }
+    // A reply to points is their spots, each against the feature of its own job.
+    ensures points { IfOk result (λ reply. IsSpelled block.now → block.now.head.kind ≡ 2 → reply ≡ points_reply block.now) }
+{
     match answered(alloc, block) {
-        Err(JobFault::OutOfMemory) => Err(AllocError),
-        Err(fault) => Ok(Reply::refused(alloc, fault.code(), u32::MAX)),
         Ok(reply) => Ok(reply),
+        Err(fault) => refused_for(alloc, fault),
+    }
+}
+
+/// The number of a job in a reply; that of none where it has no number of 32 bits.
+fn job_number(job: Option<usize>) -> u32
+    ensures { result ≡ job_number job }
+{
+    match job {
+        Some(job) => small(job),
+        None => u32::MAX,
     }
 }
 
 /// The reply to a block that is refused when it is read.
-pub fn refusal(alloc: Global, fault: &BlockFault) -> Reply {
-    let job = match fault.job() {
-        Some(job) => match u32::try_from(job) {
-            Ok(own) => own,
-            Err(_) => u32::MAX,
-        },
-        None => u32::MAX,
-    };
-    Reply::refused(alloc, u32::from(fault.code()), job)
+pub fn refusal(alloc: Global, fault: &BlockFault) -> Reply
+    ensures { result ≡ refused (refusal_of fault.now) (job_number (job_of fault.now)) }
+{
+    Reply::refused(alloc, u32::from(fault.code()), job_number(fault.job()))
 }
 
 /// The reply to a block that is longer than may be held.
-pub fn too_long(alloc: Global) -> Reply {
+pub fn too_long(alloc: Global) -> Reply
+    ensures { result ≡ refused 83 no_job }
+{
     Reply::refused(alloc, 83, u32::MAX)
 }

@@ -1,4 +1,9 @@
 //! Blocks in, replies out.
+ghost use Rattle.std.specs.Prelude.{◌≡◌, false, IfOk};
+ghost use Rattle.block_reading.specs.Block.{block_of};
+ghost use Rattle.feature_jobs.specs.Answers.{IsReplyOf};
+ghost use Rattle.feature_jobs.specs.Reply.{bytes_of};
+
 use crate::reading::{Next, next_block};
 use block_reading::{ReadFault, read_block};
 use fault_texts::CommonFault;
@@ -7,7 +12,10 @@ use std::alloc::Global;
 use std::io::{BufReader, BufWriter, Read, Write};
 
 /// The reply to some bytes.
-fn reply_to(alloc: Global, bytes: &[u8]) -> Result<Reply, CommonFault> {
+#[tactic(auto, using(crate::proofs::ReplyLemmas::answered_so, crate::proofs::ReplyLemmas::refused_so))]
+fn reply_to(alloc: Global, bytes: &[u8]) -> Result<Reply, CommonFault>
+    ensures { IfOk result (λ reply. IsReplyOf (block_of bytes.now) reply) }
+{
     match read_block(alloc, bytes) {
         Ok(block) => match answer(alloc, &block) {
             Ok(reply) => Ok(reply),
@@ -32,16 +40,16 @@ fn next_reply<R: Read>(
 }
 
 /// A reply as bytes, or as lines.
-fn spelled(alloc: Global, reply: &Reply, is_text: bool) -> Result<Vec<u8>, CommonFault> {
-    let made = if is_text {
-        match reply.lines(alloc) {
+fn spelled(alloc: Global, reply: &Reply, is_text: bool) -> Result<Vec<u8>, CommonFault>
+    ensures { IfOk result (λ all. is_text ≡ false → all.items ≡ bytes_of reply.now) }
+{
+    if is_text {
+        return match reply.lines(alloc) {
             Ok(lines) => Ok(lines.into_bytes()),
-            Err(fault) => Err(fault),
-        }
-    } else {
-        reply.bytes(alloc)
-    };
-    match made {
+            Err(_) => Err(CommonFault::OutOfMemory),
+        };
+    }
+    match reply.bytes(alloc) {
         Ok(bytes) => Ok(bytes),
         Err(_) => Err(CommonFault::OutOfMemory),
     }

@@ -1,0 +1,5 @@
+pub mod Bytes
+pub mod Fault
+pub mod Reply
+pub mod Rows
+pub mod Answers
