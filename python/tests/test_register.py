@@ -5,12 +5,15 @@ from __future__ import annotations
 import dataclasses
 import random
 import sqlite3
+import subprocess
+import sys
 from pathlib import Path
 
 import pytest
 from osgeo import gdal, ogr
 
 from overlayd.kernel.rows import BlockRefused
+from overlayd.register import refreshing
 from overlayd.register.answers import Program
 from overlayd.register.auditing import audit
 from overlayd.register.beginning import standing
@@ -21,6 +24,7 @@ from overlayd.register.package import GeoPackage
 from overlayd.register.registers import Register
 
 from . import register_works as works
+from .common import SECONDS
 from .register_works import ALL, CHECK, DERIVED, PAIRS, Land, land
 
 pytestmark = pytest.mark.features
@@ -50,6 +54,15 @@ def test_tables_follow_changes_taken_a_few_at_a_time(tmp_path: Path) -> None:
     works.by_sql(own.path, random.Random(1), 20)
     while own.refresh(most=3):
         pass
+    works.check_tables(own)
+
+
+def test_features_of_a_new_register_are_taken_in_by_parts(tmp_path: Path, monkeypatch: pytest.MonkeyPatch) -> None:
+    monkeypatch.setattr(refreshing, "FIRST", 5)
+    own = land(tmp_path / "land.gpkg", 8, ())
+    assert (own.refresh(), own.register.state().version) == (12, 3)  # 9 parcels and 3 zones, by three transactions
+    for one in ALL:
+        keep(own.register, one, own.program)
     works.check_tables(own)
 
 
@@ -294,6 +307,26 @@ def test_a_full_and_a_locked_database_lose_nothing(tmp_path: Path) -> None:
     assert own.refresh() == 39
     works.check_tables(own, (PAIRS, CHECK))
     assert (None, None) in own.ask("SELECT area, bound FROM overlay_result_rest")  # 40 features over one place
+
+
+def test_a_write_into_a_log_that_was_taken_away_is_not_acknowledged(tmp_path: Path) -> None:
+    """GDAL that closes the file as well takes SQLite's locks from this process; another one that closes it then is the
+    last to SQLite, and takes the log away."""
+    own, text = land(tmp_path / "land.gpkg", 9, ()), "import sqlite3, sys; sqlite3.connect(sys.argv[1]).execute('{}')"
+    writer = GeoPackage(str(own.path), writes_layers=True)
+    with writer.writing():
+        writer.ask("DELETE FROM parcels WHERE fid = 1")
+    gdal.OpenEx(str(own.path), gdal.OF_VECTOR)
+    words = [sys.executable, "-c", text.format("SELECT count(*) FROM parcels"), str(own.path)]
+    subprocess.run(words, check=True, timeout=SECONDS)
+    with pytest.raises(sqlite3.DatabaseError, match="-wal was taken away"), writer.writing():
+        writer.ask("DELETE FROM parcels WHERE fid = 2")
+    for engine in (writer, own.register.engine):
+        engine.close()
+    again = GeoPackage(str(own.path), writes_layers=True)
+    with again.writing():
+        again.ask("DELETE FROM parcels WHERE fid = 3")
+    assert works.rows_of(own.path, "SELECT fid FROM parcels") == [(fid,) for fid in (2, *range(4, 10))]
 
 
 def test_an_audit_names_rows_that_are_missing_and_wrong(tmp_path: Path) -> None:

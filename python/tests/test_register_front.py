@@ -1,7 +1,5 @@
 """The front over a register: its pages, changes of one feature and of several, what is refused, and history."""
 
-from __future__ import annotations
-
 import contextlib
 import json
 import socket
@@ -119,13 +117,11 @@ def test_items_come_page_by_page(place: Place) -> None:
     assert degrees == pytest.approx([9.0, 48.7538], abs=1e-3)
 
 
-@pytest.mark.parametrize("low, high, wanted", [
-    ((1, 1), (2, 2), [1]), ((10, 5), (10, 5), [1, 2]), ((9, 9), (11, 11), [1, 2, 4, 5]), ((31, 0), (40, 9), []),
-    ((-9, -9), (99, 99), [1, 2, 3, 4, 5, 6]),
-])
-def test_a_box_has_what_meets_it_changes_that_wait_too(
-    place: Place, low: tuple[int, int], high: tuple[int, int], wanted: list[int],
-) -> None:
+@pytest.mark.parametrize("low, high, wanted", [((1, 1), (2, 2), [1]), ((10, 5), (10, 5), [1, 2]),
+                                               ((9, 9), (11, 11), [1, 2, 4, 5]), ((31, 0), (40, 9), []),
+                                               ((-9, -9), (99, 99), [1, 2, 3, 4, 5, 6])])
+def test_a_box_has_what_meets_it_changes_that_wait_too(place: Place, low: tuple[int, int], high: tuple[int, int],
+                                                       wanted: list[int]) -> None:
     own, client = place
     edges = ",".join(str(base + axis) for one in (low, high) for base, axis in zip((works.EAST, works.NORTH), one))
     path = f"/collections/parcels/items?limit=2&bbox={edges}&bbox-crs={UTM}"
@@ -250,9 +246,8 @@ def test_what_cannot_be_is_refused_by_name_and_nothing_stops(place: Place, body:
     assert ask(client, "/collections/parcels/items", "POST", feature(box(50, 0, 60, 10))).status == 201
 
 
-def test_a_full_disk_and_a_locked_file_are_told_and_nothing_is_lost(
-    place: Place, monkeypatch: pytest.MonkeyPatch,
-) -> None:
+def test_a_full_disk_and_a_locked_file_are_told_and_nothing_is_lost(place: Place,
+                                                                    monkeypatch: pytest.MonkeyPatch) -> None:
     own, client = place
     before = parcels(own)
     engine = own.register.engine

@@ -1,7 +1,5 @@
 """What the page with the map asks of a register: tiles, shades, violations, pairs, corners, what has changed."""
 
-from __future__ import annotations
-
 from pathlib import Path
 from typing import Any
 
@@ -101,10 +99,9 @@ def test_a_feature_is_told_with_what_it_overlaps_and_breaks(place: Place) -> Non
     assert client.ask("/collections/overlay_log/items/1/results").status == 404
 
 
-@pytest.mark.parametrize("text, wanted", [
-    ("p3", [("parcels", 3, "p3")]), ("p", [("parcels", number, f"p{number}") for number in range(1, 7)]),
-    ("1", [("zones", 1, "1")]), ("", []), ("%", []), ("'; --", []),
-])
+@pytest.mark.parametrize("text, wanted", [("p3", [("parcels", 3, "p3")]),
+                                          ("p", [("parcels", number, f"p{number}") for number in range(1, 7)]),
+                                          ("1", [("zones", 1, "1")]), ("", []), ("%", []), ("'; --", [])])
 def test_features_are_found_by_how_their_names_begin(place: Place, text: str, wanted: list[Any]) -> None:
     found = place[1].get(f"/find?text={text}")["features"]
     assert [(one["collection"], one["id"], one["name"]) for one in found] == wanted

@@ -1,8 +1,6 @@
 """The page over a register in Chromium: it draws, takes clicks and keys, lists and accepts violations, moves corners,
 and shows what others change. It needs Debian's chromium-driver and python3-selenium."""
 
-from __future__ import annotations
-
 import shutil
 import subprocess
 import time

@@ -1,7 +1,5 @@
 """Layers as they were, beside what they were then, after edits of all kinds; what is purged; copies of a file."""
 
-from __future__ import annotations
-
 import random
 import sqlite3
 import subprocess

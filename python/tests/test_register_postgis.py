@@ -34,6 +34,7 @@ from overlayd.register.watching import Watching
 from . import register_works as works
 from .common import OVERLAY, SECONDS, Programs
 from .register_works import ALL, PAIRS, Land
+from .test_register import COUNTS, ODD
 from .test_register_front import client_of
 
 BINARIES = sorted(Path("/usr/lib/postgresql").glob("*/bin/initdb"))
@@ -195,17 +196,23 @@ def test_a_layer_that_is_written_over_is_looked_through(words: str, tmp_path: Pa
         own.refresh()
 
 
-def test_curves_are_edited_and_told(words: str, tmp_path: Path) -> None:
+def test_odd_shapes_are_edited_and_told(words: str, tmp_path: Path) -> None:
     own = land(words, tmp_path, 6)
     cursor = connection(words).cursor()
     cursor.execute("ALTER TABLE parcels ALTER geom TYPE geometry")
-    cursor.execute("UPDATE parcels SET geom = 'SRID=25832;CURVEPOLYGON(CIRCULARSTRING(0 0,9 0,0 0))' WHERE fid = 1")
-    cursor.execute("UPDATE parcels SET nr = 'round' WHERE fid = 1")
+    wanted = {(999, "no geometry"), *((fid, what) for fid, what in enumerate(ODD, 1000))}
+    for fid, text in ((999, None), *((fid, f"SRID=25832;{text}") for fid, text in enumerate(ODD.values(), 1000))):
+        cursor.execute("INSERT INTO parcels (fid, geom, nr) VALUES (%s, ST_GeomFromEWKT(%s), 'odd')", (fid, text))
+    for name in ("odd", "edited"):
+        cursor.execute("UPDATE parcels SET nr = %s WHERE fid >= 999", (name,))
+        own.refresh()
+        assert wanted <= {*own.ask("SELECT fid, what FROM overlay_problem WHERE layer = 'parcels'")}
+        assert {*own.ask("SELECT a FROM overlay_result_pz WHERE a >= 999")} <= {
+            (fid,) for fid, what in wanted if what in COUNTS}
+    assert all(one.is_right() for one in audit(own.register, own.program))
+    cursor.execute("DELETE FROM parcels WHERE fid >= 999")
     own.refresh()
-    assert own.ask("SELECT layer, fid, what FROM overlay_problem") == [("parcels", 1, "curved")]
-    assert own.ask("SELECT count(*) FROM overlay_result_pz WHERE a = 1") == [(0,)]
-    cursor.execute("DELETE FROM parcels WHERE fid = 1")
-    own.refresh()
+    assert not own.ask("SELECT 1 FROM overlay_problem")
     works.check_tables(own)
 
 

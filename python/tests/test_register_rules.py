@@ -1,7 +1,5 @@
 """Rules of registers: violations beside fractions and shapely, kept as layers are edited, and accepted."""
 
-from __future__ import annotations
-
 import os
 import random
 import subprocess

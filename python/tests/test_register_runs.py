@@ -1,7 +1,5 @@
 """The command `overlay register` as it is run: its words, watch, and kills of a refresh at any moment."""
 
-from __future__ import annotations
-
 import os
 import random
 import signal

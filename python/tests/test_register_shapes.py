@@ -1,7 +1,5 @@
 """Shapes of a register: each on the grid by itself, or all in one pass when a register begins."""
 
-from __future__ import annotations
-
 import random
 import struct
 from collections.abc import Callable

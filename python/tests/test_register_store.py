@@ -1,7 +1,5 @@
 """A register of the layers of a store, and of the features that an earlier version kept beside it."""
 
-from __future__ import annotations
-
 import json
 import sqlite3
 import subprocess
@@ -83,8 +81,7 @@ def test_runs_of_a_ring_are_the_ring() -> None:
         assert whole(runs) == [*ring, ring[0]]
 
 
-@pytest.mark.parametrize("table", [
-    {"features": [feature(1, "Far", LATE)]}, {"layers": 3}, {"features": [{}]}])
+@pytest.mark.parametrize("table", [{"features": [feature(1, "Far", LATE)]}, {"layers": 3}, {"features": [{}]}])
 def test_a_file_of_another_store_is_refused(table: dict[str, Any], tmp_path: Path) -> None:
     done = init(tmp_path, "--from-store", store_of(tmp_path, table, polygon(WEST)), "--live", testing.PROGRAM)
     assert (done.returncode, "no features of this store" in done.stderr) == (1, True), done.stderr

@@ -1,7 +1,5 @@
 """Transactions of registers: what a land office makes in one change, what is refused whole, and what is taken back."""
 
-from __future__ import annotations
-
 import random
 import sqlite3
 from pathlib import Path

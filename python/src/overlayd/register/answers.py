@@ -108,14 +108,14 @@ class Program:
                members: dict[str, Numbers] | None = None, wants: Wants = Wants.NOTHING
                ) -> Iterator[tuple[Numbers, Rows | None]]:
         """An expression over maps within cores, of which the word Core is the whole: some of these, and their rows;
-        None where there is no answer to one. members are the pairs of cores and features that count where not all do
-        that meet a core."""
+        None where there is no answer to one. members are the pairs of cores and features, by the cores, that count
+        where not all do that meet a core."""
         names, known = sorted(maps), members or {}
+        met = [known[name] if name in known else pairs(cores, maps[name].boxes()) for name in names]
         asked = Maps([maps[name] for name in names], names, [self.apart(maps[name]) for name in names], expression)
         for at in range(0, len(cores), CELLS_AT_ONCE):
             some = cores[at : at + CELLS_AT_ONCE]
-            meet = [part_of(known[name], at, at + len(some)) if name in known else pairs(some, maps[name].boxes())
-                    for name in names]
+            meet = [part_of(one, at, at + len(some)) for one in met]
             for places, rows in self._within(asked, some, meet, wants):
                 yield places + at, rows
 
@@ -177,7 +177,8 @@ class Maps:
 
 def part_of(members: Numbers, begin: int, end: int) -> Numbers:
     """The pairs of some cores and features, the cores numbered anew."""
-    found: Numbers = members[(members[:, 0] >= begin) & (members[:, 0] < end)] - [begin, 0]
+    low, high = np.searchsorted(members[:, 0], (begin, end))
+    found: Numbers = members[low:high] - [begin, 0]
     return found
 
 

@@ -1,7 +1,5 @@
 """Compares tables of results with what the program answers anew to the features as they are in the database."""
 
-from __future__ import annotations
-
 import random
 from collections.abc import Sequence
 from dataclasses import dataclass

@@ -1,7 +1,5 @@
 """Begins a register in a database, and says how one stands: for the command, and for the plugin of QGIS."""
 
-from __future__ import annotations
-
 from fractions import Fraction
 
 from . import statements

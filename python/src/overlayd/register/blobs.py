@@ -21,7 +21,7 @@ def well_known(blob: object) -> bytes | None:
     if not isinstance(blob, bytes) or len(blob) < HEAD or blob[:2] != MAGIC or blob[3] & EXTENDED:
         return UNREADABLE
     kind = blob[3] >> 1 & 7
-    return blob[HEAD + ENVELOPES[kind]:] if kind < len(ENVELOPES) else UNREADABLE
+    return kind < len(ENVELOPES) and blob[HEAD + ENVELOPES[kind]:] or UNREADABLE
 
 
 def system_of(blob: bytes) -> int:

@@ -5,8 +5,6 @@ Steps that were there stay as they are, but those on which a new corner lies. So
 common, and nothing is taken in twice.
 """
 
-from __future__ import annotations
-
 from collections.abc import Callable, Collection, Iterable, Mapping
 from dataclasses import dataclass
 from fractions import Fraction

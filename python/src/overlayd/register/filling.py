@@ -92,8 +92,12 @@ def fill(register: Register, other: Engine, kept: Kept, program: Program) -> int
     with Register(other).own_change():
         other.drop(kept.table())  # of a filling that was ended
         other.create(kept.table(), columns, is_listed=True)
+        for number, index in enumerate(statements.INDEXES[columns]):  # of a full table each holds up who edits
+            unique = "" if number else "UNIQUE "
+            name = other.named(f"{kept.table()}_{number}")
+            other.ask(f"CREATE {unique}INDEX {name} ON {other.named(kept.table())} ({index})")
     with engine.reading():
-        version, pending = register.state().version, engine.ask(statements.PENDING)
+        version, pending = register.state().version, engine.ask(statements.SOME_PENDING, 1)
         sides = {name: seen_side(register, name) for name in kept.layers()} if not pending else {}
     if pending:
         return None
@@ -105,10 +109,6 @@ def fill(register: Register, other: Engine, kept: Kept, program: Program) -> int
     with register.own_change():
         if register.state().version != version:
             return None
-        for number, index in enumerate(statements.INDEXES[columns]):
-            unique = "" if number else "UNIQUE "
-            name = engine.named(f"{kept.table()}_{number}")
-            engine.ask(f"CREATE {unique}INDEX {name} ON {engine.named(kept.table())} ({index})")
         engine.ask(statements.ADD_KEPT, kept.name, kept.kind.value, kept.a, kept.b, kept.expression, kept.cell)
         if is_cells:
             _, large = with_few_cells(kept, sides)

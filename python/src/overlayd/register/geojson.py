@@ -6,43 +6,19 @@ import math
 import struct
 from typing import Any
 
+from ..geometry import wkb
 from .blobs import MULTIPOLYGON, POLYGON
 from .transacting import Unfit
 
-Z, M, SYSTEM = 0x80000000, 0x40000000, 0x20000000
 KINDS = {"Polygon": POLYGON, "MultiPolygon": MULTIPOLYGON}
 
 
 def geometry_of(shape: bytes | None) -> dict[str, Any] | None:
     """A polygon or a multipolygon of Well-Known Binary, without heights; None of what is neither."""
     try:
-        found, _ = read(shape or b"", 0)
+        return wkb.read(shape or b"")[0]
     except (struct.error, ValueError):
         return None
-    return found
-
-
-def read(shape: bytes, at: int) -> tuple[dict[str, Any], int]:
-    """One geometry, and where it ends."""
-    order = "<" if shape[at : at + 1] == b"\1" else ">"
-    (kind,) = struct.unpack_from(order + "I", shape, at + 1)
-    axes = 2 + bool(kind & Z) + bool(kind & M) + (0, 1, 1, 2)[(kind & 0xFFFF) // 1000 % 4]
-    at += 9 if kind & SYSTEM else 5
-    (count,) = struct.unpack_from(order + "I", shape, at)
-    at, parts = at + 4, []
-    plain = (kind & 0xFFFF) % 1000
-    if plain not in KINDS.values():
-        raise ValueError("no polygon")
-    for _ in range(count):
-        if plain == MULTIPOLYGON:
-            own, at = read(shape, at)
-            parts.append(own["coordinates"])
-            continue
-        (points,) = struct.unpack_from(order + "I", shape, at)
-        numbers = struct.unpack_from(f"{order}{axes * points}d", shape, at + 4)
-        parts.append([[*numbers[place : place + 2]] for place in range(0, len(numbers), axes)])
-        at += 4 + 8 * axes * points
-    return {"type": "Polygon" if plain == POLYGON else "MultiPolygon", "coordinates": parts}, at
 
 
 def shape_of(geometry: object) -> bytes:

@@ -1,7 +1,5 @@
 """Which grid a register gets where none is named: one for all its layers, by their own digits."""
 
-from __future__ import annotations
-
 from fractions import Fraction
 
 import numpy as np

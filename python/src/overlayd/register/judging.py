@@ -4,8 +4,6 @@ So an old fault is in nobody's way, and a parcel that is split may keep it: of a
 that any changed feature of its layer had before.
 """
 
-from __future__ import annotations
-
 from collections.abc import Mapping
 from typing import NamedTuple
 

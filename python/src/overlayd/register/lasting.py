@@ -1,7 +1,5 @@
 """The program as a process that stays: a refresh asks little, and to begin a process costs more than the answer."""
 
-from __future__ import annotations
-
 import dataclasses
 import queue
 from collections.abc import Generator, Iterable, Iterator

@@ -2,8 +2,6 @@
 lost are made again, and what was changed meanwhile is found by digests.
 """
 
-from __future__ import annotations
-
 from . import statements
 from .engines import filled
 from .model import Layer, Refused

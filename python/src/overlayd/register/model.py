@@ -1,7 +1,5 @@
 """What a register has: layers, what is kept of them, its state, and why it refuses."""
 
-from __future__ import annotations
-
 import enum
 import re
 from dataclasses import dataclass

@@ -48,7 +48,7 @@ class GeoPackage:
                 raise Refused(f"{path}: no GeoPackage")
         except sqlite3.DatabaseError as fault:
             raise Refused(f"{path}: no GeoPackage: {fault}") from None
-        self.inode = os.stat(path).st_ino
+        self.inode, self.log = os.stat(path).st_ino, self._log_now()
         self.ask("PRAGMA temp_store = MEMORY")
         if writes_layers:
             add_functions(self.db)
@@ -81,7 +81,23 @@ class GeoPackage:
     @contextlib.contextmanager
     def writing(self) -> Iterator[None]:
         with self._transaction("BEGIN IMMEDIATE"):
+            self._need_log()
             yield
+        self._need_log()
+
+    def _log_now(self) -> int | None:
+        """The inode of the log that is beside the file, if one is."""
+        with contextlib.suppress(FileNotFoundError):
+            return os.stat(f"{self.path}-wal").st_ino
+        return None
+
+    def _need_log(self) -> None:
+        """Refuses what is written into a log that is the file's no more. A process that has also closed the file by
+        other means, as by GDAL, has lost SQLite's locks on it, so that another process may take the log away."""
+        found = self._log_now()
+        self.log = self.log or found
+        if found != self.log:
+            raise sqlite3.DatabaseError(f"{self.path}-wal was taken away: nothing is written; open the file anew")
 
     @contextlib.contextmanager
     def _transaction(self, begin: str) -> Iterator[None]:
@@ -233,7 +249,7 @@ class GeoPackage:
         return f"{found[0][0].upper()}:{found[0][1]}" if found else None
 
     def second(self) -> GeoPackage:
-        return GeoPackage(self.path, self.writes_layers, self.patience)
+        return type(self)(self.path, self.writes_layers, self.patience)
 
     def token(self) -> object:
         return self.ask("PRAGMA data_version")[0][0]
@@ -242,9 +258,9 @@ class GeoPackage:
         time.sleep(min(LOOK, seconds))
 
     def is_replaced(self) -> bool:
-        """Whether another file has the name now."""
+        """Whether another file has the name now, or its log is lost to this connection."""
         try:
-            return os.stat(self.path).st_ino != self.inode
+            return os.stat(self.path).st_ino != self.inode or self.log not in (None, self._log_now())
         except FileNotFoundError:
             return True
 

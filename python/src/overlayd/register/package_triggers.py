@@ -1,7 +1,5 @@
 """The triggers of a layer in a GeoPackage: what is changed goes into the list of what is pending, and into the log."""
 
-from __future__ import annotations
-
 from .model import Layer
 
 BODIES = {

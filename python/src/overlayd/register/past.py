@@ -1,8 +1,6 @@
 """A layer as it was: what the log says to have changed since is put back, page by page. The log goes back to when the
 layer was taken in, or to where it was purged."""
 
-from __future__ import annotations
-
 import datetime
 import json
 from collections.abc import Iterator

@@ -6,6 +6,7 @@ import contextlib
 import importlib
 import re
 import select
+import sqlite3
 from collections.abc import Iterable, Iterator, Sequence
 from typing import Any
 
@@ -256,11 +257,11 @@ class PostGis:
 
 
 def faults() -> tuple[type[Exception], ...]:
-    """What a database may raise, where what asks it is there."""
+    """What a database of either engine may raise, where what asks it is there."""
     try:
-        return (importlib.import_module("psycopg2").Error,)
+        return (sqlite3.Error, importlib.import_module("psycopg2").Error)
     except ModuleNotFoundError:
-        return ()
+        return (sqlite3.Error,)
 
 
 def place_of(name: str) -> str:

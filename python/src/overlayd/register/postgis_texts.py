@@ -4,8 +4,6 @@ Functions of triggers run with the rights of who made the register, by a fixed p
 need have no rights on the register's own tables, and nobody else makes triggers that call them.
 """
 
-from __future__ import annotations
-
 MARK = """CREATE OR REPLACE FUNCTION overlay_mark() RETURNS trigger LANGUAGE plpgsql SECURITY DEFINER
 SET search_path = overlay, {postgis}, pg_temp AS $$
 DECLARE layer text := TG_ARGV[0]; key text := TG_ARGV[1]; shape text := TG_ARGV[2]; ident text := TG_ARGV[3];
@@ -50,19 +48,16 @@ RIGHTS = {
     "reader": READS,
     "editor": (*READS, ("layer", "GRANT INSERT, UPDATE, DELETE ON {name} TO {role}"),
                ("sequence", "GRANT USAGE ON SEQUENCE {name} TO {role}")),
-    "refresher": (
-        *READS, ("table", "GRANT INSERT, UPDATE, DELETE ON {name} TO {role}"),
-        ("", "ALTER DEFAULT PRIVILEGES IN SCHEMA overlay GRANT INSERT, UPDATE, DELETE ON TABLES TO {role}")),
+    "refresher": (*READS, ("table", "GRANT INSERT, UPDATE, DELETE ON {name} TO {role}"),
+                  ("", "ALTER DEFAULT PRIVILEGES IN SCHEMA overlay GRANT INSERT, UPDATE, DELETE ON TABLES TO {role}")),
 }
 # What a refresh writes.
 WRITTEN = ("SELECT format('overlay.%I', tablename) FROM pg_tables WHERE schemaname = 'overlay' AND tablename ~"
            " '^overlay_(state|pending|problem|violation|index_.*|result_.*)$'")
 
-TRIGGERS = {
-    "overlay_mark": "AFTER INSERT OR UPDATE OR DELETE ON {layer} FOR EACH ROW",
-    "overlay_call": "AFTER INSERT OR UPDATE OR DELETE ON {layer} FOR EACH STATEMENT",
-    "overlay_all": "BEFORE TRUNCATE ON {layer} FOR EACH STATEMENT",
-}
+TRIGGERS = {"overlay_mark": "AFTER INSERT OR UPDATE OR DELETE ON {layer} FOR EACH ROW",
+            "overlay_call": "AFTER INSERT OR UPDATE OR DELETE ON {layer} FOR EACH STATEMENT",
+            "overlay_all": "BEFORE TRUNCATE ON {layer} FOR EACH STATEMENT"}
 FOUND_TRIGGERS = ("SELECT tgname::text, tgenabled::text, encode(tgargs, 'escape') FROM pg_trigger"
                   " WHERE tgrelid = to_regclass(?) AND NOT tgisinternal AND tgname::text LIKE 'overlay\\_%'")
 OTHERS = ("SELECT tgname::text FROM pg_trigger WHERE tgrelid = to_regclass(?) AND NOT tgisinternal"

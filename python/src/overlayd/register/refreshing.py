@@ -29,6 +29,8 @@ from .violating import Violation, needed, violations
 from .violation_rows import affected, replaced
 
 TRIES = 100  # a refresh begins anew where another came between
+FIRST = 5000  # changes that are worked in together where nothing is kept yet, so that who edits waits for no more
+ALL = 2**62
 Hook = Callable[[], None]
 
 
@@ -60,27 +62,32 @@ def refresh(register: Register, program: Program, say: Say = in_silence, most: i
             before_write: Hook = nothing) -> int:
     """Brings all tables up to date, or at least so many changes; how many changes are in them now."""
     register.need()
-    for _ in range(TRIES):
+    done = tries = 0
+    while tries < TRIES:
         if register.engine.schema() != register.state().schema_was:
             look_through(register, say)
-        work = read(register, most)
+        work = read(register, most or (ALL if register.kept() or register.rules() else FIRST))
         if work is None:
-            return 0
+            return done
         make_rows(work, program)
         before_write()
-        if write(register, work):
-            return len(work.pending)
+        if not write(register, work):
+            tries += 1
+        elif most or work.kept or work.rules or len(work.pending) < FIRST:
+            return done + len(work.pending)
+        else:
+            done += len(work.pending)
     raise Refused("another refresh comes between each time")
 
 
-def read(register: Register, most: int | None) -> Work | None:
-    """What a refresh needs, of one state; None where nothing has changed."""
+def read(register: Register, most: int) -> Work | None:
+    """What a refresh of so many changes needs, of one state; None where nothing has changed."""
     engine = register.engine
     engine.ask(statements.MAKE_ASKED)
     engine.ask(statements.MAKE_BOXES)
     with engine.reading():
         state, schema = register.state(), engine.schema()
-        pending = [(row[0], row[1], row[2]) for row in engine.ask(statements.PENDING)][:most]
+        pending = [(row[0], row[1], row[2]) for row in engine.ask(statements.SOME_PENDING, most)]
         if not pending:
             return None
         work = Work(state.version, schema, state.factor, register.layers(), register.kept(), register.rules(), pending)

@@ -99,6 +99,18 @@ class Register:
             for text in (statements.DROP_LAYER, statements.DROP_PENDING, statements.DROP_PROBLEMS):
                 self.engine.ask(text, name)
 
+    def delete_column(self, name: str, column: str) -> None:
+        """Deletes a column of a layer. SQLite by itself does not, as the triggers name it."""
+        self.need()
+        with self.own_change():
+            layer = self.layer(name)
+            if column not in self.engine.columns(layer) or column == layer.ident:
+                left = ", ".join(one for one in self.engine.columns(layer) if one != layer.ident)
+                raise Refused(f"{column}: no column of {name} that may be deleted; there are {left or 'none'}")
+            self.engine.disarm(layer)
+            self.engine.ask(f"ALTER TABLE {self.engine.place(layer)} DROP COLUMN {self.engine.named(column)}")
+            self.engine.arm(layer)
+
     def unkeep(self, name: str) -> None:
         """Keeps a table of results no longer."""
         self.need()

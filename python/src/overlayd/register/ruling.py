@@ -43,7 +43,7 @@ def added(register: Register, rule: Rule, program: Program) -> Rule | None:
     """Adds a rule with its violations; None where a change came between."""
     engine = register.engine
     with engine.reading():
-        version, pending = register.state().version, engine.ask(statements.PENDING)
+        version, pending = register.state().version, engine.ask(statements.SOME_PENDING, 1)
         sides = {name: seen_side(register, name) for name in rule.layers()} if not pending else {}
     if pending:
         return None

@@ -1,7 +1,5 @@
 """Features of a layer that a piece of work looks at, on the grid, and the rows that they make."""
 
-from __future__ import annotations
-
 from collections.abc import Iterator, Mapping
 from dataclasses import dataclass, field
 from fractions import Fraction
@@ -48,7 +46,7 @@ class Side:
         """Where something has changed: the boxes that were, and those that are."""
         return np.concatenate([self.were, self.boxes()[self.changed()]])
 
-    def only(self, keeps: Numbers) -> Side:
+    def only(self, keeps: Numbers) -> "Side":
         """The same, in which the others have no shape."""
         own = self.taken.without(np.flatnonzero(~keeps), "")
         return Side(self.found, own, self.is_changed, self.were)

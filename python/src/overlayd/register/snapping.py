@@ -4,8 +4,6 @@ Where the grid moves a corner, corners that lay on a neighbour's border are take
 were keep their bytes; so do those with heights, which would lose them, and those of which nothing would be left.
 """
 
-from __future__ import annotations
-
 import struct
 from collections.abc import Collection
 from fractions import Fraction

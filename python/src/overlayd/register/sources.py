@@ -1,7 +1,5 @@
 """Layers of other files that go into a GeoPackage, and features that go into another one, by GDAL."""
 
-from __future__ import annotations
-
 import json
 from collections.abc import Iterable
 from pathlib import Path

@@ -29,6 +29,7 @@ CELLS = "id KEY, i BIGINT NOT NULL, j BIGINT NOT NULL, area DOUBLE PRECISION, bo
 INDEXES_OF_TABLES = (
     "CREATE INDEX IF NOT EXISTS overlay_log_change ON overlay_log (change)",
     "CREATE INDEX IF NOT EXISTS overlay_log_fid ON overlay_log (layer, fid)",
+    "CREATE INDEX IF NOT EXISTS overlay_problem_fid ON overlay_problem (layer, fid)",
     "CREATE INDEX IF NOT EXISTS overlay_violation_a ON overlay_violation (rule, a)",
     "CREATE INDEX IF NOT EXISTS overlay_violation_b ON overlay_violation (rule, b)",
     "CREATE INDEX IF NOT EXISTS overlay_violation_x ON overlay_violation (rule, minx)",
@@ -67,6 +68,7 @@ WAS = ("SELECT id, fid, what, geom, old FROM overlay_log WHERE id IN (SELECT min
        " AND id >= ? AND fid > ? GROUP BY fid ORDER BY fid LIMIT ?) ORDER BY fid")
 UNCHANGED = "NOT EXISTS (SELECT 1 FROM overlay_log l WHERE l.layer = ? AND l.fid = t.{key} AND l.id >= ?)"
 PENDING = "SELECT id, layer, fid FROM overlay_pending ORDER BY id"
+SOME_PENDING = f"{PENDING} LIMIT ?"
 PENDING_OF = "SELECT layer, count(*) FROM overlay_pending GROUP BY layer ORDER BY layer"
 ADD_PENDING = "INSERT INTO overlay_pending (layer, fid) VALUES (?, ?)"
 DONE = "DELETE FROM overlay_pending WHERE id = ?"

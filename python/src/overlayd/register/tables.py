@@ -1,7 +1,5 @@
 """The rows of a layer's own table: read one by one and page by page, and written."""
 
-from __future__ import annotations
-
 import datetime
 import decimal
 import hashlib

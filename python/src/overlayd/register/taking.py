@@ -4,8 +4,6 @@ Coordinates are rounded, and steps that are too long for the program bent at who
 a feature is does not depend on the others.
 """
 
-from __future__ import annotations
-
 import enum
 from dataclasses import dataclass
 from fractions import Fraction
@@ -61,7 +59,7 @@ class Taken:
         found: Numbers = np.diff(self.features.feature_at) > 0
         return found
 
-    def without(self, places: Numbers, what: str) -> Taken:
+    def without(self, places: Numbers, what: str) -> "Taken":
         """The same without the shapes of some, of which it is told."""
         counts = np.diff(self.features.feature_at)
         keeps = np.ones(len(counts), bool)

@@ -1,7 +1,5 @@
 """Changes of any features of any layers as one: all or nothing, judged by the rules at the end, and one in the log."""
 
-from __future__ import annotations
-
 import dataclasses
 import enum
 import json

@@ -1,7 +1,5 @@
 """Where features break a rule: of what has changed and of what is near it, each violation with its area and outline."""
 
-from __future__ import annotations
-
 from collections.abc import Mapping
 from typing import NamedTuple
 

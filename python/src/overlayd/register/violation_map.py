@@ -1,8 +1,6 @@
 """What breaks rules as a layer for QGIS: a view of the violations with their outlines, and of a GeoPackage the style in
 which it is opened, overlaps red, gaps orange, and grey what is accepted."""
 
-from __future__ import annotations
-
 from typing import NamedTuple
 
 NAME = "overlay_violation_map"

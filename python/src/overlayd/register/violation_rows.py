@@ -1,8 +1,6 @@
 """The rows of violations: which of them a change may have ended, and those that take their place. One that was accepted
 stays so where it is found again no larger."""
 
-from __future__ import annotations
-
 from collections.abc import Mapping, Sequence
 from fractions import Fraction
 from typing import NamedTuple

@@ -2,20 +2,25 @@
 
 from __future__ import annotations
 
+import contextlib
 import random
 import time
 from collections.abc import Callable
 from dataclasses import dataclass
 
+from ..kernel.running import ProgramEnded
 from . import statements
 from .answers import Program
 from .auditing import Audit, audit
 from .engines import Engine
+from .model import Refused
+from .postgis import faults
 from .refreshing import refresh
 from .registers import Register, Say, in_silence
 
 SAMPLE_EACH = 600.0  # seconds between two audits of a sample
 SAMPLE_PART = 100  # of so many features one is audited
+LOST: tuple[type[Exception], ...] = (Refused, ProgramEnded, OSError, *faults())
 IDLE = 1.0  # seconds after which it looks again, whatever the database says
 
 
@@ -31,13 +36,18 @@ class Watching:
 
     def run(self, goes_on: Callable[[], bool]) -> None:
         """Goes on until it is told not to. The database is held open all the time, so that its journal stays as it is;
-        where its file is replaced by another, that one is opened."""
+        where its file is replaced by another, or the database or the program is lost, or a layer is gone, that is told
+        once, and all is begun anew until it is there again."""
+        told = ""
         while goes_on():
-            engine = self.opened()
             try:
-                self._one(engine, goes_on)
-            finally:
-                engine.close()
+                with contextlib.closing(self.opened()) as engine:
+                    self._one(engine, goes_on)
+            except LOST as fault:
+                if str(fault) != told:
+                    told = str(fault)
+                    self.say(f"not refreshed: {told.strip()}; the changes wait")
+                time.sleep(IDLE)
 
     def _one(self, engine: Engine, goes_on: Callable[[], bool]) -> None:
         """Watches one file."""

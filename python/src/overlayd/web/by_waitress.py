@@ -3,8 +3,6 @@
 Of waitress alone a connection lives as long as something comes or goes now and then, and its own refusals are plain
 text. Here a request and an answer have an end, and what waitress refuses is reported as the front says it."""
 
-from __future__ import annotations
-
 import contextlib
 import logging
 import socket
@@ -16,11 +14,9 @@ from waitress.channel import HTTPChannel
 from waitress.task import ErrorTask
 
 from .front import HEADERS, Front, refusal
-from .pages import BODY_MOST
-from .serving import (
-    ANSWER_SECONDS, LINE_MOST, PORT_MOST, QUIET_SECONDS, REQUEST_SECONDS, THREADS, Unheard, connections_most,
-    tell_fewer, print_address,
-)
+from .pages import BODY_READ
+from .serving import (ANSWER_SECONDS, LINE_MOST, PORT_MOST, QUIET_SECONDS, REQUEST_SECONDS, THREADS, Unheard,
+                      connections_most, tell_fewer, print_address)
 
 
 class Refusal(ErrorTask):
@@ -79,7 +75,7 @@ def server_of(front: Front, host: str, port: int, make_ends: Callable[[Any], End
         threads=THREADS,
         connection_limit=connections_most(),
         asyncore_use_poll=True,  # select takes no file whose number is above 1023
-        max_request_body_size=BODY_MOST,
+        max_request_body_size=BODY_READ,
         max_request_header_size=LINE_MOST,
         channel_timeout=QUIET_SECONDS,
         cleanup_interval=1,

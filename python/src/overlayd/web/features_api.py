@@ -3,8 +3,6 @@
 A layer is a collection, and each polygon of it an item: an outer ring and its holes. Items are numbered in the order of
 their least corners, so a number holds as long as the layer's revision does."""
 
-from __future__ import annotations
-
 import re
 import urllib.parse
 from typing import Any
@@ -38,11 +36,10 @@ class FeaturesApi(OgcPages):
         found = view.layer(name)
         definition = found.layer.definition
         at = f"{g.root}/collections/{name}"
-        made: dict[str, object] = {
-            "id": name, "title": name, "itemType": "feature", "revision": found.revision, "definition": definition,
-            "description": f"{name} = {definition}" if definition else "a base layer",
-            "links": [link(at, "self"), link(f"{at}/items", "items", GEOJSON)],
-        }
+        made: dict[str, object] = {"id": name, "title": name, "itemType": "feature", "revision": found.revision,
+                                   "definition": definition,
+                                   "description": f"{name} = {definition}" if definition else "a base layer",
+                                   "links": [link(at, "self"), link(f"{at}/items", "items", GEOJSON)]}
         return {**made, **self._placed(view.extent(name))}
 
     @page("GET", f"{LAYER}/items", "getFeatures", "items of a collection", "featureCollection", *ITEM_WORDS,
@@ -58,10 +55,8 @@ class FeaturesApi(OgcPages):
         matched = [one for one in joined.features if asked.meets is None or asked.meets(one)]
         chosen = matched[offset : offset + limit]
         at = f"{g.root}/collections/{name}"
-        links = [
-            link(f"{at}/items?{urllib.parse.urlencode(given, safe=',')}".rstrip("?"), "self", GEOJSON),
-            link(at, "collection"),
-        ]
+        links = [link(f"{at}/items?{urllib.parse.urlencode(given, safe=',')}".rstrip("?"), "self", GEOJSON),
+                 link(at, "collection")]
         places = [("next", offset + limit)] * (offset + limit < len(matched)) + [("prev", max(0, offset - limit))] * (
             offset > 0
         )

@@ -1,7 +1,5 @@
 """The front as an application of Flask: who may ask, which page answers, and how a refusal is reported."""
 
-from __future__ import annotations
-
 import functools
 import pathlib
 import re
@@ -136,14 +134,14 @@ def file(folder: pathlib.Path, name: str, seconds: int | None = None) -> Respons
 
 
 def of_store(store: LayerStore, hosts: Iterable[str] = LOOPBACK, base: str | None = None,
-             leaflet: pathlib.Path = LEAFLET, systems: Systems | None = None) -> Front:
+             leaflet: pathlib.Path = LEAFLET, systems: Systems | None = None) -> "Front":
     """The front over a store. systems: those that it answers in, where not only in the store's."""
     owners = (FeaturesApi(store, systems), MapApi(store, systems), Files(leaflet))
     return Front(owners, store.writable, hosts, base)
 
 
 def of_register(pages: RegisterApi, hosts: Iterable[str] = LOOPBACK, base: str | None = None,
-                leaflet: pathlib.Path = LEAFLET) -> Front:
+                leaflet: pathlib.Path = LEAFLET) -> "Front":
     """The front over a register."""
     return Front((pages, RegisterChanges(pages), RegisterMap(pages), Files(leaflet)), pages.writable, hosts, base)
 

@@ -1,8 +1,6 @@
 """Processes that join the pieces of a layer into polygons. Work that takes too long is killed with its process, and the
 next work begins that anew; so no layer holds up the others for longer."""
 
-from __future__ import annotations
-
 import contextlib
 import multiprocessing
 import os

@@ -1,7 +1,5 @@
 """Values that take long to make, kept while there is room for them."""
 
-from __future__ import annotations
-
 import contextlib
 import threading
 from collections.abc import Callable, Hashable, MutableMapping

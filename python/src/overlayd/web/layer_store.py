@@ -4,8 +4,6 @@ All that a process does not keep is kept here under a layer's revision, a digest
 text, or its definition with the revisions of the layers that this names. So a change to one layer leaves what was
 worked out for others, and a revision that comes again finds its polygons again."""
 
-from __future__ import annotations
-
 import contextlib
 import functools
 import threading
@@ -75,10 +73,8 @@ class LayerStore:
     version: the number that the process began with, and kept: whether it is the number of a file. rescue: what is begun
     where the file is not written any more. end: called with the reason where the front cannot go on."""
 
-    def __init__(
-        self, server: Server, scratch: Scratch, scale: MapScale, *, version: int, kept: bool, writable: bool,
-        rescue: Rescue | None = None, end: Callable[[str], None] = lambda reason: None,
-    ) -> None:
+    def __init__(self, server: Server, scratch: Scratch, scale: MapScale, *, version: int, kept: bool, writable: bool,
+                 rescue: Rescue | None = None, end: Callable[[str], None] = lambda reason: None) -> None:
         self.scale, self.kept, self.writable = scale, kept, writable
         self.version = self.durable = version
         self._server, self._scratch = server, scratch

@@ -1,7 +1,5 @@
 """What the front answers beyond the standard: where points lie, tiles as they are built, the version, and changes."""
 
-from __future__ import annotations
-
 import re
 from fractions import Fraction
 from typing import cast

@@ -2,8 +2,6 @@
 
 A number of the web is a decimal, or a fraction as 5/3. Only what is written is rounded, by the scale's digits."""
 
-from __future__ import annotations
-
 import re
 from fractions import Fraction
 

@@ -1,8 +1,6 @@
 """What the pages of OGC API - Features have in common, over a store or a register: the landing page, the systems of
 coordinates, and the box of a question."""
 
-from __future__ import annotations
-
 import pathlib
 import re
 from collections.abc import Callable
@@ -80,12 +78,10 @@ class OgcPages:
             {
                 "title": self.scale.title,
                 "description": self.about,
-                "links": [
-                    link(f"{root}/?f=json", "self", title="this page"),
-                    link(f"{root}/?f=html", "alternate", "text/html", "a map"),
-                    link(f"{root}/api", "service-desc", OPENAPI), link(f"{root}/conformance", "conformance"),
-                    link(f"{root}/collections", "data", title="the layers"),
-                ],
+                "links": [link(f"{root}/?f=json", "self", title="this page"),
+                          link(f"{root}/?f=html", "alternate", "text/html", "a map"),
+                          link(f"{root}/api", "service-desc", OPENAPI), link(f"{root}/conformance", "conformance"),
+                          link(f"{root}/collections", "data", title="the layers")],
             }
         )
 

@@ -1,8 +1,6 @@
 """The description of the front by OpenAPI 3.0, which GET /api gives: each page as it is said, with its words, its body
 and its answers."""
 
-from __future__ import annotations
-
 import re
 from collections.abc import Sequence
 
@@ -57,7 +55,5 @@ def document(title: str, root: str, writable: bool, kinds: Sequence[type]) -> Va
         for page in said_by(kind).values():
             if page.name and (writable or not page.is_change):
                 paths.setdefault(path_of(page), {})[page.method.lower()] = operation(page)
-    return {
-        "openapi": "3.0.3", "info": {"title": title, "version": "1.0"}, "servers": [{"url": root}], "paths": paths,
-        "components": {"schemas": SCHEMAS},
-    }
+    return {"openapi": "3.0.3", "info": {"title": title, "version": "1.0"}, "servers": [{"url": root}], "paths": paths,
+            "components": {"schemas": SCHEMAS}}

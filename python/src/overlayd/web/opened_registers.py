@@ -3,7 +3,6 @@
 from __future__ import annotations
 
 import contextlib
-import sqlite3
 import threading
 from collections.abc import Iterator
 
@@ -17,7 +16,7 @@ from ..register.registers import Register
 from .views import Busy
 
 PATIENCE = 20.0  # seconds for which a change waits for others
-FAULTS: tuple[type[Exception], ...] = (sqlite3.Error, *faults())
+FAULTS: tuple[type[Exception], ...] = faults()
 
 
 class Lost(Exception):

@@ -4,8 +4,6 @@ A page is a method of an object whose class says it by `page`. It takes the part
 with _ for -; f, the form of the answer, is a word of each page and handed to none. `Front` gives a page its route,
 openapi.py its description."""
 
-from __future__ import annotations
-
 import json
 import re
 from collections.abc import Callable, Mapping
@@ -18,6 +16,7 @@ from ..store.world import exact
 from .schemas import Value, array
 
 BODY_MOST = 1 << 20
+BODY_READ = 4 * BODY_MOST  # read to its end, so that its sender reads the refusal; what is larger is broken off
 GEOJSON = "application/geo+json"
 JSON = "application/json"
 Answers = TypeVar("Answers", bound=Callable[..., Response])
@@ -121,10 +120,9 @@ class Page(NamedTuple):
         return self.method != "GET"
 
 
-def page(
-    method: str, route: str, name: str = "", text: str = "", answer: str = "", *words: Word, kind: str = JSON,
-    body: str | None = None, status: int = 200, slow: bool = False, if_match: bool = False,
-) -> Callable[[Answers], Answers]:
+def page(method: str, route: str, name: str = "", text: str = "", answer: str = "", *words: Word, kind: str = JSON,
+         body: str | None = None, status: int = 200, slow: bool = False,
+         if_match: bool = False) -> Callable[[Answers], Answers]:
     """Says of a method of a class which page it answers."""
     known = words if any(one.name == FORM.name for one in words) else (*words, FORM)
 
@@ -159,7 +157,7 @@ def link(href: str, rel: str, kind: str = JSON, title: str | None = None) -> dic
 
 def content(*kinds: str) -> bytes:
     """The bytes of the body, said to be JSON or one of kinds; one that is too large is refused (413), unless waitress
-    did. Werkzeug would bound forms alone, and take a length that it cannot read for none."""
+    did (BODY_READ). Werkzeug would bound forms alone, and take a length that it cannot read for none."""
     if request.mimetype not in (JSON, GEOJSON, *kinds):
         raise Problem(415, f"{JSON} is wanted")
     length = request.environ.get("CONTENT_LENGTH") or ""

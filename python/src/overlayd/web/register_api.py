@@ -1,7 +1,5 @@
 """The pages of OGC API - Features (parts 1 and 2) over a register: its layers, tables of results, and violations."""
 
-from __future__ import annotations
-
 import urllib.parse
 from fractions import Fraction
 from typing import Any

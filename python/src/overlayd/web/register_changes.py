@@ -1,7 +1,5 @@
 """Changes of a register through the front: one feature at a time (OGC API - Features, part 4), several as one, undo."""
 
-from __future__ import annotations
-
 import getpass
 from collections.abc import Callable, Mapping
 from typing import Any

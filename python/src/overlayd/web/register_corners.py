@@ -1,7 +1,5 @@
 """Who has a corner: the features that change with it, and the corners of others on the borders that it moves."""
 
-from __future__ import annotations
-
 import math
 from collections.abc import Iterator
 from dataclasses import dataclass

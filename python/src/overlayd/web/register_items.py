@@ -1,7 +1,5 @@
 """Rows of a register as items: features of its layers, rows of its tables of results, and violations."""
 
-from __future__ import annotations
-
 import urllib.parse
 from collections.abc import Callable, Mapping
 from dataclasses import dataclass

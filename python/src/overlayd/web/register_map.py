@@ -4,8 +4,6 @@ are broken, what a feature overlaps, who has a corner, and what has changed.
 Coordinates of questions and boxes are those of the register's own system, x first.
 """
 
-from __future__ import annotations
-
 import math
 import threading
 import time

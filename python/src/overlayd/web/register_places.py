@@ -1,7 +1,5 @@
 """Which features of a layer have a point: asked of the proved program."""
 
-from __future__ import annotations
-
 import math
 from fractions import Fraction
 

@@ -4,8 +4,6 @@ A write that failed may leave bytes that the system shows and the disk has not, 
 more (docs/COMMANDS.md, "A write or a sync failed"). The copy is written whole and opened once before it is put there.
 """
 
-from __future__ import annotations
-
 import contextlib
 import errno
 import os

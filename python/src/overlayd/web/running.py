@@ -1,11 +1,9 @@
 """Runs a front as the words of its command say: what it opens, what ends it, and with which status."""
 
-from __future__ import annotations
-
 import contextlib
-import ctypes
 import multiprocessing
 import os
+import shutil
 import signal
 import subprocess
 import sys
@@ -33,8 +31,11 @@ from .serving import Unheard
 from .systems import Systems, Unprojected, by_pyproj
 from .usual import LEAFLET, LOOPBACK
 
-PR_SET_PDEATHSIG = 1  # of prctl(2)
+WITH_PARENT = ("setpriv", "--pdeathsig", "TERM")
+"""Has the system end a process as soon as the one that has begun it is gone, even by a kill. No Python may run in a
+copy of a process with threads: another thread may have held a lock when it was made."""
 ENDING = 10.0  # seconds in which a refresh under way may come to its end
+AGAIN = 5.0  # seconds after which one that has ended is begun anew
 PATIENCE = 300.0
 """How many seconds a session waits for a reply before it is late."""
 
@@ -74,10 +75,8 @@ def opened(words: Words, ending: Ending) -> Iterator[tuple[Server, LayerStore]]:
     scale, reads = scale_of(words), not words.writable
     with contextlib.ExitStack() as open_ones:
         server = open_ones.enter_context(
-            Server(
-                words.store, create=words.create, read_only=reads, sessions=MOST_SESSIONS, workers=words.workers,
-                program=words.program, timeout=PATIENCE,
-            )
+            Server(words.store, create=words.create, read_only=reads, sessions=MOST_SESSIONS, workers=words.workers,
+                   program=words.program, timeout=PATIENCE)
         )
         scratch = open_ones.enter_context(Scratch(words.program, JOINING))
         version = 0
@@ -87,10 +86,8 @@ def opened(words: Words, ending: Ending) -> Iterator[tuple[Server, LayerStore]]:
             with server.session(slow=True) as one:
                 version = one.sync()
         rescue = Rescue(words.store, words.program, ending.end) if words.store and not reads else None
-        store = LayerStore(
-            server, scratch, scale, version=version, kept=bool(words.store), writable=words.writable, rescue=rescue,
-            end=ending.end,
-        )
+        store = LayerStore(server, scratch, scale, version=version, kept=bool(words.store), writable=words.writable,
+                           rescue=rescue, end=ending.end)
         open_ones.callback(store.close)
         for watch in (watch_server, watch_scratch, watch_sessions):
             threading.Thread(target=watch, args=(server, scratch, store, ending), daemon=True).start()
@@ -139,25 +136,29 @@ def run_register(register: str, program: str | None = None, hosts: Iterable[str]
     return 0
 
 
-def end_with_parent() -> None:
-    """Has the system end this process as soon as the one that has begun it is gone, even by a kill."""
-    ctypes.CDLL(None).prctl(PR_SET_PDEATHSIG, signal.SIGTERM, 0, 0, 0)
-
-
 @contextlib.contextmanager
 def refreshing(register: str, program: str | None) -> Iterator[None]:
-    """A process that keeps a register current, and is ended with this one."""
-    options = ["--program", program] if program else []
-    watch = subprocess.Popen([*OVERLAY, "register", "watch", register, *options],
-                             stdout=subprocess.DEVNULL, preexec_fn=end_with_parent)
+    """A process that keeps a register current: begun anew where it ends, and ended with this one."""
+    words = [*OVERLAY, "register", "watch", register, *(["--program", program] if program else [])]
+    words = [*(WITH_PARENT if shutil.which(WITH_PARENT[0]) else ()), *words]
+    ends, running = threading.Event(), list[subprocess.Popen[bytes]]()
+
+    def keep() -> None:
+        while not ends.is_set():
+            running[:] = [subprocess.Popen(words, stdout=subprocess.DEVNULL)]
+            running[0].wait()
+            ends.wait(AGAIN)
+
+    thread = threading.Thread(target=keep, daemon=True)
+    thread.start()
     try:
         yield
     finally:
-        watch.terminate()
-        with contextlib.suppress(subprocess.TimeoutExpired):
-            watch.wait(ENDING)
-        watch.kill()  # what it has not written is pending again
-        watch.wait()
+        ends.set()
+        for end in ("terminate", "kill"):  # what it has not written is pending again
+            for one in running:
+                getattr(one, end)()
+            thread.join(ENDING)
 
 
 def run_store(words: Words, hosts: set[str]) -> int:

@@ -1,7 +1,5 @@
 """The schemas of what the front answers and takes, as OpenAPI 3.0 has them."""
 
-from __future__ import annotations
-
 from collections.abc import Iterable
 from typing import Any
 

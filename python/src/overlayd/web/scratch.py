@@ -1,7 +1,5 @@
 """A process of overlay_live in memory, where the boundary of a base layer is worked out, which EDGES does not give."""
 
-from __future__ import annotations
-
 import contextlib
 import os
 import threading
@@ -58,7 +56,7 @@ class Scratch:
     def close(self) -> None:
         self._server.close()
 
-    def __enter__(self) -> Scratch:
+    def __enter__(self) -> "Scratch":
         return self
 
     def __exit__(self, *_: object) -> None:

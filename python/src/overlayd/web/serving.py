@@ -1,7 +1,5 @@
 """What the server of the front is given: how many it may answer at once and for how long, and where it listens."""
 
-from __future__ import annotations
-
 import errno
 import resource
 import sys

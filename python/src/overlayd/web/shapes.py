@@ -3,8 +3,6 @@
 Pieces are joined into rings by geometry/rings.py. What is asked of a feature is worked out on its exact corners; only
 what is written is rounded, by the scale."""
 
-from __future__ import annotations
-
 from ..geometry import plane
 from ..geometry.plane import Box
 from ..geometry.rings import polygons_of
@@ -31,10 +29,8 @@ class Feature:
 
     def geojson(self) -> dict[str, object]:
         properties = {"corners": sum(map(len, self.rings)), "holes": len(self.rings) - 1, "area": self.area}
-        return {
-            "type": "Feature", "id": self.number, "properties": properties,
-            "geometry": {"type": "Polygon", "coordinates": [ring + ring[:1] for ring in self.positions]},
-        }
+        return {"type": "Feature", "id": self.number, "properties": properties,
+                "geometry": {"type": "Polygon", "coordinates": [ring + ring[:1] for ring in self.positions]}}
 
 
 def area_of(rings: list[list[Point]], scale: MapScale) -> int | float:

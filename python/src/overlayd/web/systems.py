@@ -4,8 +4,6 @@ A store in a projected system is served as CRS84 where pyproj knows how, and in 
 - Features, part 2), its axes in the order that the system itself has. One that has no name of EPSG is not transformed.
 """
 
-from __future__ import annotations
-
 import math
 from collections.abc import Callable, Sequence
 from decimal import Decimal

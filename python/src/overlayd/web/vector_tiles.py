@@ -4,8 +4,6 @@ A tile of zoom z is a square of 512 dots of the screen, of which a unit of the l
 and below the layers' (0, 0), x grows to the right and y downwards: so an address means the same whatever is added.
 """
 
-from __future__ import annotations
-
 import contextlib
 from collections.abc import Sequence
 from typing import NamedTuple

@@ -1,8 +1,6 @@
 """What there is at one version. The front's sessions are all that a process has, so nobody changes a layer but the
 front itself: questions share a hold, a change has it alone, and all that is asked under one hold is of one version."""
 
-from __future__ import annotations
-
 import contextlib
 import hashlib
 import re
