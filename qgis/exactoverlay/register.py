@@ -2,9 +2,11 @@
 
 from __future__ import annotations
 
+import json
 import os
-import sqlite3
-from collections.abc import Callable
+import pathlib
+import subprocess
+import sys
 from typing import Any
 
 from qgis.core import (QgsProcessing, QgsProcessingException, QgsProcessingOutputNumber, QgsProcessingOutputString,
@@ -13,27 +15,54 @@ from qgis.core import (QgsProcessing, QgsProcessingException, QgsProcessingOutpu
                        QgsProcessingParameterString)
 
 from .exact import Exact
-from .ext.overlayd.kernel import Ask
-from .ext.overlayd.register.answers import Program
-from .ext.overlayd.register.beginning import begun, idents_of, opened, standing
-from .ext.overlayd.register.filling import keep
-from .ext.overlayd.register.model import Kept, Kind, Refused
-from .ext.overlayd.register.postgis import faults
-from .ext.overlayd.register.refreshing import refresh
-from .ext.overlayd.register.registers import Register
-from .running import Answer, GoesOn
+from .ext.overlayd.kernel import Cancelled
+from .ext.overlayd.kernel.running import Said, Watch
+from .ext.overlayd.register.model import Kind
+from .running import GoesOn
 
-FILE, LAYERS, IDENT, SNAP, STATUS, ROWS = "FILE", "LAYERS", "ID", "SNAP", "STATUS", "ROWS"
-CHANGES, KIND, NAME, LAYER, OTHER, EXPRESSION = "CHANGES", "KIND", "TABLE", "LAYER", "OTHER", "EXPRESSION"
+FILE, LAYERS, IDENT, SNAP = "FILE", "LAYERS", "ID", "SNAP"
+KIND, TABLE, LAYER, OTHER, EXPRESSION = "KIND", "TABLE", "LAYER", "OTHER", "EXPRESSION"
 KINDS = [one.value for one in Kind]
 IDENT_TOLD = "Field that names features, or LAYER=FIELD, .. (optional)"
+PLUGINS = str(pathlib.Path(__file__).parents[1])
+WORK = "import sys; sys.path.insert(0, sys.argv[1]); from exactoverlay.register_work import main; main()"
+
+
+class Refusal(Exception):
+    """Why a work with a register is not done."""
+
+
+def apart(words: list[Any], goes_on: GoesOn) -> tuple[list[str], Any]:
+    """What a process of its own says and finds: register_work.py says why it is one."""
+    process = subprocess.Popen([python(), "-c", WORK, PLUGINS], stdin=subprocess.PIPE, stdout=subprocess.PIPE,
+                               stderr=subprocess.PIPE)
+    said, watch, told = Said(process), Watch(process, goes_on), list[dict[str, Any]]()
+    with process, process.stdin as given:
+        given.write(json.dumps(words).encode())
+        given.close()
+        for line in process.stdout:
+            told.append(json.loads(line))
+            watch.done = told[-1].get("done", watch.done)
+    watch.ended.set()
+    if watch.is_cancelled:
+        raise Cancelled
+    if not told or "found" not in told[-1]:
+        raise Refusal(told[-1]["fault"] if told and "fault" in told[-1] else said.text())
+    return [one["said"] for one in told if "said" in one], told[-1]["found"]
+
+
+def python() -> str:
+    """Python itself: what QGIS calls so may be QGIS."""
+    own = pathlib.Path(sys.executable or "")
+    return str(own if own.name.startswith("python") else pathlib.Path(sys.exec_prefix, "bin", "python3"))
 
 
 class OfRegister(Exact):
-    """An algorithm over a register, which a file or a database has."""
+    """An algorithm over a register, which a file or a database has; it has one OUTPUT, of what is found."""
 
-    FAULTS = (Refused, sqlite3.Error, OSError, RuntimeError, *faults())
-    CANCELLED = "cancelled; a step that was begun may still be done"
+    FAULTS = (Refusal, OSError)
+    CANCELLED = "cancelled; what was done before stays"
+    OUTPUT: tuple[type[Any], str, str] = QgsProcessingOutputString, "STATUS", "How it stands"
 
     def group(self) -> str:
         return "Register"
@@ -41,7 +70,13 @@ class OfRegister(Exact):
     def groupId(self) -> str:
         return "register"
 
-    def add_file(self) -> None:
+    def initAlgorithm(self, config: Any = None) -> None:
+        self.add_words()
+        kind, *told = self.OUTPUT
+        self.addOutput(kind(*told))
+
+    def add_words(self) -> None:
+        """Parameters of what words has."""
         self.addParameter(QgsProcessingParameterFile(FILE, "GeoPackage, or PG:service=.."))
 
     def add_text(self, name: str, told: str, is_optional: bool = True) -> None:
@@ -50,32 +85,30 @@ class OfRegister(Exact):
     def text(self, parameters: Any, name: str, context: Any) -> str:
         return str(self.parameterAsString(parameters, name, context)).strip()
 
-    def words(self, parameters: Any, name: str, context: Any) -> list[str]:
+    def texts(self, parameters: Any, name: str, context: Any) -> list[str]:
         """Words between commas."""
         return [one.strip() for one in self.text(parameters, name, context).split(",") if one.strip()]
 
-    def worked(self, feedback: Any, file: str, work: Callable[[Register, Program], Answer]) -> Answer:
-        """What work on a register gives, which asks the program."""
+    def file(self, parameters: Any, context: Any, feedback: Any) -> str:
+        """Where the register is, or is to be."""
+        return self.text(parameters, FILE, context)
 
-        def with_program(path: str, goes_on: GoesOn) -> Answer:
-            register = opened(file)
-            return work(register, Program(Ask(path, goes_on=goes_on), register.state().factor))
+    def work(self, parameters: Any, context: Any) -> tuple[str, list[Any]]:
+        """What is to be done."""
+        return "status", []
 
-        return self.done(feedback, with_program)
-
-    def began(self, parameters: Any, context: Any, feedback: Any, file: str, names: list[str], snaps: bool) -> str:
-        """Takes layers into a register; how it stands then."""
+    def beginning(self, parameters: Any, context: Any, names: list[str], snaps: bool) -> tuple[str, list[Any]]:
+        """Layers are taken into a register."""
         grid = self.text(parameters, self.GRID, context) or None
-        idents = tuple(self.words(parameters, IDENT, context))
+        return "begin", [names, grid, self.texts(parameters, IDENT, context), snaps]
 
-        def work(path: str, goes_on: GoesOn) -> str:
-            begun(file, names, grid, idents_of(idents, names), snaps, said.append)
-            return "\n".join(standing(opened(file)))
-
-        said: list[str] = []
-        found = self.done(feedback, work)
-        feedback.pushInfo("\n".join([*said, found]))
-        return found
+    def answer(self, parameters: Any, context: Any, feedback: Any) -> dict[str, Any]:
+        file = self.file(parameters, context, feedback)
+        work = self.work(parameters, context)
+        said, found = self.done(feedback, lambda path, goes_on: apart([file, path, *work], goes_on))
+        _, name, told = self.OUTPUT
+        feedback.pushInfo("\n".join([*said, f"{told}: {found}"]))
+        return {FILE: file, name: found}
 
 
 class Init(OfRegister):
@@ -86,24 +119,25 @@ class Init(OfRegister):
             "it, and makes a register of them: tables of what they overlap can be kept there (Keep a table of "
             "results), and follow each edit of any program.")
 
-    def initAlgorithm(self, config: Any = None) -> None:
+    def add_words(self) -> None:
         self.addParameter(QgsProcessingParameterMultipleLayers(LAYERS, "Layers", QgsProcessing.TypeVectorPolygon))
         self.add_grid()
         self.add_text(IDENT, IDENT_TOLD)
         self.addParameter(QgsProcessingParameterFileDestination(FILE, "Register", "GeoPackage (*.gpkg)"))
-        self.addOutput(QgsProcessingOutputString(STATUS, "How it stands"))
 
-    def answer(self, parameters: Any, context: Any, feedback: Any) -> dict[str, Any]:
+    def file(self, parameters: Any, context: Any, feedback: Any) -> str:
         import processing
 
-        file = self.parameterAsFileOutput(parameters, FILE, context)
+        file = str(self.parameterAsFileOutput(parameters, FILE, context))
         if os.path.exists(file):
             raise QgsProcessingException(f"{file} is there already: Take layers into a register makes one in it")
-        layers = self.parameterAsLayerList(parameters, LAYERS, context)
-        words = {"LAYERS": layers, "OUTPUT": file, "SAVE_STYLES": False}
+        words = {"LAYERS": self.parameterAsLayerList(parameters, LAYERS, context), "OUTPUT": file, "SAVE_STYLES": False}
         processing.run("native:package", words, context=context, feedback=feedback, is_child_algorithm=True)
-        names = [layer.name() for layer in layers]
-        return {FILE: file, STATUS: self.began(parameters, context, feedback, file, names, True)}
+        return file
+
+    def work(self, parameters: Any, context: Any) -> tuple[str, list[Any]]:
+        names = [layer.name() for layer in self.parameterAsLayerList(parameters, LAYERS, context)]
+        return self.beginning(parameters, context, names, True)
 
 
 class Adopt(OfRegister):
@@ -113,18 +147,16 @@ class Adopt(OfRegister):
     HELP = ("Takes layers that are in a GeoPackage, or in a database of PostGIS, into its register, which is made "
             "where none is there. Their shapes are not changed, but where they are to be brought onto the grid.")
 
-    def initAlgorithm(self, config: Any = None) -> None:
-        self.add_file()
+    def add_words(self) -> None:
+        super().add_words()
         self.add_text(LAYERS, "Names of layers, with commas", False)
         self.add_grid()
         self.add_text(IDENT, IDENT_TOLD)
         self.addParameter(QgsProcessingParameterBoolean(SNAP, "Bring shapes onto the grid", defaultValue=False))
-        self.addOutput(QgsProcessingOutputString(STATUS, "How it stands"))
 
-    def answer(self, parameters: Any, context: Any, feedback: Any) -> dict[str, Any]:
-        file, names = self.text(parameters, FILE, context), self.words(parameters, LAYERS, context)
+    def work(self, parameters: Any, context: Any) -> tuple[str, list[Any]]:
         snaps = self.parameterAsBool(parameters, SNAP, context)
-        return {STATUS: self.began(parameters, context, feedback, file, names, snaps)}
+        return self.beginning(parameters, context, self.texts(parameters, LAYERS, context), snaps)
 
 
 class Keep(OfRegister):
@@ -134,27 +166,22 @@ class Keep(OfRegister):
     HELP = ("Keeps the table overlay_result_NAME in a register: which features of two layers touch or overlap (pairs), "
             "which of one layer overlap (check), or the area of an expression over layers, cell by cell, as "
             "(flood | slide) - parks (derive).")
+    OUTPUT = QgsProcessingOutputNumber, "ROWS", "Number of rows"
 
-    def initAlgorithm(self, config: Any = None) -> None:
-        self.add_file()
+    def add_words(self) -> None:
+        super().add_words()
         self.addParameter(QgsProcessingParameterEnum(KIND, "What is kept", KINDS, defaultValue=0))
-        self.add_text(NAME, "Name of the table", False)
+        self.add_text(TABLE, "Name of the table", False)
         self.add_text(LAYER, "Layer (pairs, check)")
         self.add_text(OTHER, "Other layer (pairs)")
         self.add_text(EXPRESSION, "Expression (derive)")
-        self.addOutput(QgsProcessingOutputNumber(ROWS, "Number of rows"))
 
-    def answer(self, parameters: Any, context: Any, feedback: Any) -> dict[str, Any]:
-        file, name, layer, other, expression = (self.text(parameters, one, context)
-                                                for one in (FILE, NAME, LAYER, OTHER, EXPRESSION))
-        kind = Kind(KINDS[self.parameterAsEnum(parameters, KIND, context)])
-        if kind is Kind.DERIVE:
-            kept = Kept(name, kind, expression=expression)
-        else:
-            kept = Kept(name, kind, layer, other if kind is Kind.PAIRS else layer)
-        rows = self.worked(feedback, file, lambda register, program: keep(register, kept, program))
-        feedback.pushInfo(f"{kept.table()}: {rows} rows")
-        return {ROWS: rows}
+    def work(self, parameters: Any, context: Any) -> tuple[str, list[Any]]:
+        name, layer, other, expression = (self.text(parameters, one, context)
+                                          for one in (TABLE, LAYER, OTHER, EXPRESSION))
+        kind = KINDS[self.parameterAsEnum(parameters, KIND, context)]
+        of = {"pairs": [layer, other], "check": [layer, layer], "derive": [None, None, expression]}
+        return "keep", [name, kind, *of[kind]]
 
 
 class Refresh(OfRegister):
@@ -162,17 +189,10 @@ class Refresh(OfRegister):
 
     NAME, TITLE = "registerrefresh", "Refresh a register"
     HELP = "Brings all tables of results of a register up to date: what is near each change since is worked out again."
+    OUTPUT = QgsProcessingOutputNumber, "CHANGES", "Number of changes"
 
-    def initAlgorithm(self, config: Any = None) -> None:
-        self.add_file()
-        self.addOutput(QgsProcessingOutputNumber(CHANGES, "Number of changes"))
-
-    def answer(self, parameters: Any, context: Any, feedback: Any) -> dict[str, Any]:
-        said: list[str] = []
-        file = self.text(parameters, FILE, context)
-        changes = self.worked(feedback, file, lambda register, program: refresh(register, program, said.append))
-        feedback.pushInfo("\n".join([*said, f"{changes} changes"]))
-        return {CHANGES: changes}
+    def work(self, parameters: Any, context: Any) -> tuple[str, list[Any]]:
+        return "refresh", []
 
 
 class Status(OfRegister):
@@ -180,16 +200,6 @@ class Status(OfRegister):
 
     NAME, TITLE = "registerstatus", "How a register stands"
     HELP = "Of which state the tables of results of a register are, what is pending, and what is wrong with features."
-
-    def initAlgorithm(self, config: Any = None) -> None:
-        self.add_file()
-        self.addOutput(QgsProcessingOutputString(STATUS, "How it stands"))
-
-    def answer(self, parameters: Any, context: Any, feedback: Any) -> dict[str, Any]:
-        file = self.text(parameters, FILE, context)
-        found = self.done(feedback, lambda path, goes_on: "\n".join(standing(opened(file))))
-        feedback.pushInfo(found)
-        return {STATUS: found}
 
 
 REGISTER = Init, Adopt, Keep, Refresh, Status

@@ -2,8 +2,12 @@
 
 from __future__ import annotations
 
+import contextlib
 import pathlib
+import shutil
 import sqlite3
+import subprocess
+import sys
 from typing import Any
 
 import pytest
@@ -45,6 +49,30 @@ def test_tables_are_kept_and_follow_an_edit_of_qgis(register: str) -> None:
     assert run("registerrefresh", FILE=register)["CHANGES"] == 1
     assert rows(register, "SELECT count(*) FROM overlay_result_shared") == [(2,)]
     assert rows(register, "SELECT count(*) FROM overlay_result_pz WHERE a_id = '203'") == [(0,)]
+
+
+def may_write(file: str) -> bool:
+    """Whether another process may write a file now."""
+    text = "import sqlite3, sys; sqlite3.connect(sys.argv[1], timeout=0).execute('BEGIN IMMEDIATE')"
+    return not subprocess.run([sys.executable, "-c", text, file], stderr=subprocess.DEVNULL, check=False).returncode
+
+
+def test_another_process_works_on_a_register(register: str, monkeypatch: pytest.MonkeyPatch) -> None:
+    """OGR, where it opens a file, takes away the locks that sqlite3 has of it in the same process: two may write."""
+    from qgis.core import QgsVectorLayer
+
+    other = shutil.copy(register, register + ".gpkg")
+    with contextlib.closing(sqlite3.connect(other, isolation_level=None)) as own:
+        own.execute("PRAGMA journal_mode = DELETE")
+        own.execute("BEGIN IMMEDIATE")
+        assert not may_write(other)
+        assert QgsVectorLayer(f"{other}|layername=parcels", "parcels", "ogr").isValid()
+        assert may_write(other)
+        own.execute("ROLLBACK")
+    monkeypatch.delattr(sqlite3, "connect")
+    assert run("registerkeep", FILE=register, KIND=0, TABLE="pz", LAYER="parcels", OTHER="zones")["ROWS"] == 12
+    assert run("registerrefresh", FILE=register)["CHANGES"] == 0
+    assert run("registerstatus", FILE=register)["STATUS"].endswith("overlay_result_pz: pairs parcels zones, 12 rows")
 
 
 def test_layers_of_a_geopackage_are_taken_in_where_they_are(qgis: Any, tmp_path: pathlib.Path) -> None:
