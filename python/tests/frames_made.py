@@ -1,7 +1,5 @@
 """GeoDataFrames for tests: maps of rectangles in whole numbers, of which GEOS's overlays are exact, and others."""
 
-from __future__ import annotations
-
 import functools
 import math
 import random

@@ -4,8 +4,6 @@
 
 Points and lines are left to geopandas, as its tests have them too. Columns that only overlayd has are taken away."""
 
-from __future__ import annotations
-
 from typing import Any
 
 import geopandas

@@ -1,7 +1,5 @@
 """Maps of doubles that are partitions but for what doubles leave, and the edges of whole rings, exactly."""
 
-from __future__ import annotations
-
 import collections
 import heapq
 import math

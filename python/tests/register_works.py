@@ -2,6 +2,7 @@
 
 from __future__ import annotations
 
+import contextlib
 import random
 import sqlite3
 import struct
@@ -134,7 +135,13 @@ def whole(number: float) -> int:
 
 
 def features_in(path: Path | str, name: str) -> dict[int, Feature]:
-    """The features of a layer in whole numbers, by OGR: those that are polygons."""
+    """The features of a layer in whole numbers, by OGR: those that are polygons. Of a file it reads a copy, since to
+    close the file itself would take SQLite's locks from this process."""
+    if isinstance(path, Path):
+        copy = path.with_name(f"read-{path.name}")
+        with contextlib.closing(sqlite3.connect(path)) as own, contextlib.closing(sqlite3.connect(copy)) as other:
+            own.backup(other)
+        path = copy
     store = gdal.OpenEx(str(path), gdal.OF_VECTOR | gdal.OF_READONLY)
     found = {}
     for feature in store.GetLayerByName(name):

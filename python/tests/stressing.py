@@ -4,8 +4,6 @@ Each change puts A and B as one version, both the same square, at a place of its
 which version it is of: all in it are of one, it began before the answer came, and none after it ended before the
 question was asked."""
 
-from __future__ import annotations
-
 import bisect
 import collections
 import http.client

@@ -1,7 +1,5 @@
 """Layers by GDAL's Arrow stream: what GDAL gives one by one."""
 
-from __future__ import annotations
-
 from collections.abc import Sequence
 from pathlib import Path
 

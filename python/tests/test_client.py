@@ -1,7 +1,5 @@
 """Tests of the client against the built program. What it has to say is in docs/COMMANDS.md."""
 
-from __future__ import annotations
-
 import itertools
 import os
 import pathlib
@@ -37,7 +35,7 @@ class ClientCase(unittest.TestCase):
     def refused(self, number: int, action: Callable[..., object], *words: object) -> Refused:
         with self.assertRaises(Refused) as caught:
             action(*words)
-        self.assertEqual(caught.exception.number, number)
+        assert caught.exception.number == number
         return caught.exception
 
 
@@ -48,48 +46,40 @@ class Commands(ClientCase):
 
     def test_each_change_is_a_version(self) -> None:
         one = self.session
-        self.assertEqual(
-            (one.put("A", SQUARE), one.put("B", SHIFTED), one.define("I", "A&B"), one.drop("I")), (1, 2, 3, 4)
-        )
+        assert (one.put("A", SQUARE), one.put("B", SHIFTED), one.define("I", "A&B"), one.drop("I")) == (1, 2, 3, 4)
         one.define("I", "A - (B)")
-        self.assertEqual(
-            one.layers(),
-            [
-                Layer("A", "MULTIPOLYGON (((0 0, 10 0, 10 10, 0 10, 0 0)))", None),
-                Layer("B", "MULTIPOLYGON (((5 5, 15 5, 15 15, 5 15, 5 5)))", None), Layer("I", None, "A - B"),
-            ],
-        )
+        assert one.layers() == [Layer("A", "MULTIPOLYGON (((0 0, 10 0, 10 10, 0 10, 0 0)))", None),
+                                Layer("B", "MULTIPOLYGON (((5 5, 15 5, 15 15, 5 15, 5 5)))", None),
+                                Layer("I", None, "A - B")]
 
     def test_a_batch_is_one_version_or_none(self) -> None:
         one = self.session
-        self.assertEqual(one.batch([one.put_line("A", SQUARE), one.put_line("B", SHIFTED), "DEFINE I = A & B"]), 1)
+        assert one.batch([one.put_line("A", SQUARE), one.put_line("B", SHIFTED), "DEFINE I = A & B"]) == 1
         fault = self.refused(10, one.batch, [one.put_line("C", SQUARE), "DROP Z"])
-        self.assertEqual((fault.text, fault.place), ("unknown layer", 1))
-        self.assertEqual([layer.name for layer in one.layers()], ["A", "B", "I"])
-        self.assertEqual(one.batch(["DROP I"]), 2)
+        assert (fault.text, fault.place) == ("unknown layer", 1)
+        assert [layer.name for layer in one.layers()] == ["A", "B", "I"]
+        assert one.batch(["DROP I"]) == 2
 
     def test_points(self) -> None:
         one = self.session
         one.batch([one.put_line("A", SQUARE), one.put_line("B", SHIFTED), "DEFINE I = A & B"])
-        self.assertEqual(
-            [one.locate("I", 7, 7), one.locate("I", 10, 2), one.locate("I", 14, 14, 2), one.locate("I", 2, 2)],
-            ["in", "edge", "in", "out"],
-        )
-        self.assertEqual(one.grid("I", 4, 4, 2, 4, 4), ["...+", ".##+", ".##+", "++++"])
+        assert [one.locate("I", 7, 7), one.locate("I", 10, 2), one.locate("I", 14, 14, 2), one.locate("I", 2, 2)] == \
+            ["in", "edge", "in", "out"]
+        assert one.grid("I", 4, 4, 2, 4, 4) == ["...+", ".##+", ".##+", "++++"]
         self.refused(20, one.locate, "I", 0, 0, 1025)
         self.refused(45, one.grid, "I", 0, 0, 0, 1, 1)
 
     def test_edges_and_columns(self) -> None:
         one = self.session
         one.batch([one.put_line("A", SQUARE), one.put_line("B", SHIFTED), "DEFINE I = A & B"])
-        self.assertEqual(one.wait("I"), 1)
+        assert one.wait("I") == 1
         right = [((5, 5, 1), (5, 10, 1)), ((5, 5, 1), (10, 5, 1)), ((5, 10, 1), (10, 10, 1)), ((10, 5, 1), (10, 10, 1))]
-        self.assertEqual(one.edges("I", 16), right)
+        assert one.edges("I", 16) == right
         columns = one.columns("I")
-        self.assertEqual(len(columns), limits.COLUMNS)
-        self.assertEqual([number for number, pieces in enumerate(columns) if pieces], [16])
-        self.assertEqual(one.boundary("I"), Boundary(1, right, one.layers()))
-        self.assertEqual(one.verify("I", 16), "same")
+        assert len(columns) == limits.COLUMNS
+        assert [number for number, pieces in enumerate(columns) if pieces] == [16]
+        assert one.boundary("I") == Boundary(1, right, one.layers())
+        assert one.verify("I", 16) == "same"
         self.refused(23, one.edges, "I", limits.COLUMNS)
         self.refused(12, one.columns, "A")
 
@@ -97,25 +87,20 @@ class Commands(ClientCase):
         one = self.session
         one.batch([one.put_line("T", TRIANGLE), one.put_line("S", BAR), "DEFINE I = T & S", "DEFINE O = S - T"])
         third = [(1, Fraction(1, 3)), (2, Fraction(2, 3)), (2, Fraction(4, 3)), (1, Fraction(5, 3))]
-        self.assertEqual(rings(one, "I"), [[third]])
-        self.assertEqual(
-            rings(one, "O"),
-            [
-                [[(1, -1), (2, -1), (2, Fraction(2, 3)), (1, Fraction(1, 3))]],
-                [[(1, Fraction(5, 3)), (2, Fraction(4, 3)), (2, 3), (1, 3)]],
-            ],
-        )
+        assert rings(one, "I") == [[third]]
+        assert rings(one, "O") == [[[(1, -1), (2, -1), (2, Fraction(2, 3)), (1, Fraction(1, 3))]],
+                                   [[(1, Fraction(5, 3)), (2, Fraction(4, 3)), (2, 3), (1, 3)]]]
 
     def test_rings_have_holes(self) -> None:
         one = self.session
         one.batch(
             [one.put_line("A", SQUARE), one.put_line("B", "POLYGON ((2 2, 4 2, 4 4, 2 4, 2 2))"), "DEFINE D = A - B"]
         )
-        self.assertEqual(rings(one, "D"), [[[(0, 0), (10, 0), (10, 10), (0, 10)], [(2, 2), (2, 4), (4, 4), (4, 2)]]])
+        assert rings(one, "D") == [[[(0, 0), (10, 0), (10, 10), (0, 10)], [(2, 2), (2, 4), (4, 4), (4, 2)]]]
 
     def test_refusals_have_number_and_text(self) -> None:
         fault = self.refused(10, self.session.locate, "Z", 1, 1)
-        self.assertEqual((fault.text, fault.place, str(fault)), ("unknown layer", None, "error 10 unknown layer"))
+        assert (fault.text, fault.place, str(fault)) == ("unknown layer", None, "error 10 unknown layer")
         self.refused(46, self.session.sync)
         self.refused(41, self.session.ask, "HELLO")
         self.refused(9, self.session.put, "9", SQUARE)
@@ -123,28 +108,27 @@ class Commands(ClientCase):
     def test_offsets_in_a_text_of_several_lines_stay(self) -> None:
         text = "POLYGON\n((0 0,\r\n\t10 0, 10 10.5,\n0 0))"
         fault = self.refused(2, self.session.put, "A", text)
-        self.assertEqual(fault.text, f"not whole at {text.index('10.5')}")
+        assert fault.text == f"not whole at {text.index('10.5')}"
         self.session.put("A", text.replace(".5", ""))
 
     def test_what_is_no_line_is_refused_before_it_is_sent(self) -> None:
         one = self.session
         one.put("A", SQUARE)
-        for action in (
-            lambda: one.ask("LAYERS\nDROP A"), lambda: one.ask("LAYERS\r"), lambda: one.ask(""), lambda: one.ask(" \t"),
-            lambda: one.ask("# nothing"), lambda: one.ask("BATCH 1"), lambda: one.ask("  BATCH\t1"),
-            lambda: one.batch([]), lambda: one.batch(["DROP A"] * 65), lambda: one.batch(["DROP A", ""]),
-            lambda: one.batch(["DROP A", "# no"]), lambda: one.batch(["DROP A\nDROP A"]),
-            lambda: one.define("I", "A\nDROP A"), lambda: one.drop("A\nLAYERS"), lambda: one.put("B\nDROP A", SQUARE),
-            lambda: one.locate("A\n", 1, 1), lambda: one.define("I", "\udc00"),
-        ):
+        for action in (lambda: one.ask("LAYERS\nDROP A"), lambda: one.ask("LAYERS\r"), lambda: one.ask(""),
+                       lambda: one.ask(" \t"), lambda: one.ask("# nothing"), lambda: one.ask("BATCH 1"),
+                       lambda: one.ask("  BATCH\t1"), lambda: one.batch([]), lambda: one.batch(["DROP A"] * 65),
+                       lambda: one.batch(["DROP A", ""]), lambda: one.batch(["DROP A", "# no"]),
+                       lambda: one.batch(["DROP A\nDROP A"]), lambda: one.define("I", "A\nDROP A"),
+                       lambda: one.drop("A\nLAYERS"), lambda: one.put("B\nDROP A", SQUARE),
+                       lambda: one.locate("A\n", 1, 1), lambda: one.define("I", "\udc00")):
             self.assertRaises(ValueError, action)
-        self.assertEqual([layer.name for layer in one.layers()], ["A"])
-        self.assertEqual(overlay_client.LARGEST_BATCH, limits.BATCH_MAX)
+        assert [layer.name for layer in one.layers()] == ["A"]
+        assert overlay_client.LARGEST_BATCH == limits.BATCH_MAX
 
     def test_replies_of_several_lines(self) -> None:
         for first, count in (("layers 3", 3), ("edges 0", 0), ("grid 4 2", 2), ("ok 7", 0), ("built 3", 0), ("in", 0),
                              ("same", 0), ("error 10 unknown layer", 0), ("refused 1 error 10 unknown layer", 0)):
-            self.assertEqual(overlay_client.lines_after(first), count, first)
+            assert overlay_client.lines_after(first) == count, first
 
     def test_its_file_alone_needs_no_other(self) -> None:
         code = ("import own.overlay_client as c\n"
@@ -156,16 +140,16 @@ class Commands(ClientCase):
             shutil.copy(overlay_client.__file__, place / "own" / "overlay_client.py")
             words = [sys.executable, "-c", f"import sys\n{code}", testing.PROGRAM]
             done = subprocess.run(words, cwd=place, capture_output=True, text=True, check=False)
-        self.assertEqual((done.returncode, done.stdout, done.stderr), (0, "4\n", ""))
+        assert (done.returncode, done.stdout, done.stderr) == (0, "4\n", "")
 
     def test_lines_up_to_the_limit_are_carried(self) -> None:
         one = self.session
         points = [(x % 997, 3 * x) for x in range(2048)]
         text = testing.ring_text(points)
         one.batch([one.put_line(f"L{i}", text) for i in range(32)])
-        self.assertEqual([layer.text for layer in one.layers()], [f"MULTI{text.replace('((', '(((')})"] * 32)
+        assert [layer.text for layer in one.layers()] == [f"MULTI{text.replace('((', '(((')})"] * 32
         self.refused(42, one.put, "A", " " * limits.LINE_MAX + SQUARE)
-        self.assertEqual(one.locate("L31", -1, -1), "out")
+        assert one.locate("L31", -1, -1) == "out"
 
 
 class Ahead(ClientCase):
@@ -179,18 +163,18 @@ class Ahead(ClientCase):
         one = self.session
         batch = [one.put_line("A", SQUARE), one.put_line("B", SHIFTED), "DEFINE I = A & B"]
         found = list(one.answers([batch, "WAIT I", *edges_lines("I", (15, 16)), "LOCATE I 7 7", "GRID A 0 0 5 3 2"]))
-        self.assertEqual([reply.first for reply in found], ["ok 1", "built 1", "edges 0", "edges 4", "in", "grid 3 2"])
-        self.assertEqual(found[3].pieces(), one.edges("I", 16))
-        self.assertEqual((found[0].number(), found[2].pieces(), found[5].lines()), (1, [], ["+++", "+#+"]))
-        self.assertEqual(list(one.answers([])), [])
-        self.assertEqual(one.layers()[2].definition, "A & B")
+        assert [reply.first for reply in found] == ["ok 1", "built 1", "edges 0", "edges 4", "in", "grid 3 2"]
+        assert found[3].pieces() == one.edges("I", 16)
+        assert (found[0].number(), found[2].pieces(), found[5].lines()) == (1, [], ["+++", "+#+"])
+        assert list(one.answers([])) == []
+        assert one.layers()[2].definition == "A & B"
 
     def test_a_refusal_holds_up_no_other_line(self) -> None:
         one = self.session
         found = list(one.answers(["LOCATE Z 1 1", [f"PUT A {SQUARE}", "DROP Z"], f"PUT A {SQUARE}", "LOCATE A 1 1"]))
-        self.assertEqual([reply.first for reply in found[2:]], ["ok 1", "in"])
+        assert [reply.first for reply in found[2:]] == ["ok 1", "in"]
         told = [(fault.number, fault.place) for reply in found if (fault := reply.refusal)]
-        self.assertEqual(told, [(10, None), (10, 1)])
+        assert told == [(10, None), (10, 1)]
         for read in (found[0].number, found[0].lines, found[0].pieces):
             self.refused(10, read)
 
@@ -206,10 +190,10 @@ class Ahead(ClientCase):
                 yield "GRID A -100 -100 1 200 200"
 
         rows = [reply.rest for reply in self.session.answers(lines()) if reply.rest]
-        self.assertEqual((asked, len(rows), {len(row) for row in rows}), (300, 300, {201 * 200}))
+        assert (asked, len(rows), {len(row) for row in rows}) == (300, 300, {201 * 200})
         batch = [self.session.put_line(f"L{i}", long) for i in range(32)]
         whole = [f"LOCATE L31 {i} 1" for i in range(1000)]
-        self.assertEqual(len(list(self.session.answers([*whole, batch, *whole, "LAYERS"] * 3, 1 << 16))), 3 * 2002)
+        assert len(list(self.session.answers([*whole, batch, *whole, "LAYERS"] * 3, 1 << 16))) == 3 * 2002
 
     def test_lines_are_taken_while_few_bytes_have_no_reply(self) -> None:
         self.session.put("A", SQUARE)
@@ -222,11 +206,11 @@ class Ahead(ClientCase):
 
         answers = self.session.answers(lines(), 100 * len("LOCATE A 1 1\n"))
         for read in range(1, 5001):
-            self.assertEqual(next(answers), Reply("in"))
-            self.assertLessEqual(taken - read, 100)
-        self.assertGreater(taken - read, 50)
+            assert next(answers) == Reply("in")
+            assert taken - read <= 100
+        assert taken - read > 50
         answers.close()
-        self.assertTrue(self.session.closed)
+        assert self.session.closed
 
     def test_nothing_else_is_asked_meanwhile_and_all_is_afterwards(self) -> None:
         one = self.session
@@ -234,17 +218,17 @@ class Ahead(ClientCase):
         next(answers)
         for action in (one.layers, lambda: one.put("B", SQUARE), lambda: next(one.answers(["LAYERS"]))):
             self.assertRaises(RuntimeError, action)
-        self.assertEqual((next(answers).first, list(answers)), ("in", []))
-        self.assertEqual(one.locate("A", 20, 20), "out")
+        assert (next(answers).first, list(answers)) == ("in", [])
+        assert one.locate("A", 20, 20) == "out"
 
     def test_what_is_no_request_is_refused_before_it_is_sent(self) -> None:
         one = self.session
         for request in ("", "# nothing", "LAYERS\nLAYERS", "BATCH 1", [], ["DROP A"] * 65, ["DROP A", ""]):
             with self.subTest(request=request):
                 self.assertRaises(ValueError, list, one.answers([request]))
-        self.assertEqual(one.layers(), [])
+        assert one.layers() == []
         self.assertRaises(ValueError, list, one.answers(["LAYERS", ""]))
-        self.assertTrue(one.closed)
+        assert one.closed
         self.assertRaises(Ended, next, one.answers(["LAYERS"]))
 
     def test_an_end_amid_the_replies_is_told(self) -> None:
@@ -252,7 +236,7 @@ class Ahead(ClientCase):
         next(answers)
         os.kill(self.server.process.pid, signal.SIGKILL)
         self.assertRaises(Ended, lambda: [None for _ in answers])
-        self.assertTrue(self.session.closed)
+        assert self.session.closed
 
     def test_lines_go_ahead_over_a_socket(self) -> None:
         ours, theirs = socket.socketpair()
@@ -260,21 +244,21 @@ class Ahead(ClientCase):
             theirs.close()
             one = Session(ours.makefile("wb", 0), ours.makefile("rb", 0), 60)
             found = list(one.answers([f"PUT A {SQUARE}", *["GRID A 0 0 1 100 100"] * 300, *["LOCATE A 1 1"] * 5000]))
-            self.assertEqual((found[0].number(), found[-1].first, len(found)), (1, "in", 5301))
+            assert (found[0].number(), found[-1].first, len(found)) == (1, "in", 5301)
             one.close()
             ours.close()
-            self.assertEqual(run.wait(30), 0)
+            assert run.wait(30) == 0
 
     def test_a_boundary_of_named_columns(self) -> None:
         one = self.session
         wide = "POLYGON ((-200000 0, 200000 0, 200000 9, -200000 9, -200000 0))"
         one.batch([one.put_line("A", wide), "DEFINE I = A"])
         whole = one.boundary("I")
-        self.assertEqual(len(whole.pieces), 4 + 2 * 7)  # seven borders of columns cut both long sides
+        assert len(whole.pieces) == 4 + 2 * 7
         some = [piece for piece in whole.pieces if limits.column_begin(15) <= piece[0][0] < limits.column_begin(17)]
-        self.assertEqual(one.boundary("I", (15, 16)), whole._replace(pieces=some))
+        assert one.boundary("I", (15, 16)) == whole._replace(pieces=some)
         self.refused(23, one.boundary, "I", (limits.COLUMNS,))
-        self.assertEqual(overlay_client.COLUMNS, limits.COLUMNS)
+        assert overlay_client.COLUMNS == limits.COLUMNS
 
 
 class Sessions(ClientCase):
@@ -300,8 +284,8 @@ class Sessions(ClientCase):
                 thread.join()
         texts = {text.replace("((", "(((").replace("POLYGON", "MULTIPOLYGON") + ")": count for text, count in states}
         for version, pieces, layers in found:
-            self.assertEqual(len(pieces), texts[layers[0].text or ""])
-        self.assertEqual([one.version for one in found], sorted(one.version for one in found))
+            assert len(pieces) == texts[layers[0].text or ""]
+        assert [one.version for one in found] == sorted(one.version for one in found)
 
     def test_a_wait_holds_up_no_question(self) -> None:
         with running(sessions=2, workers=1) as server:
@@ -329,7 +313,7 @@ class Sessions(ClientCase):
                     one.locate("D", answered, 7)
                 answered += 1
             thread.join()
-        self.assertGreater(answered, 10)
+        assert answered > 10
 
     def test_a_session_whose_reply_is_late_is_lent_again_once_it_has_come(self) -> None:
         with running(sessions=3) as server:
@@ -339,15 +323,15 @@ class Sessions(ClientCase):
             self.assertRaises(TimeoutError, late.layers)
             for _ in range(4):
                 with server.session() as one:
-                    self.assertIsNot(one, late)
-                    self.assertEqual(one.put("A", SQUARE), server.sessions[2].put("A", SQUARE) - 1)
-            self.assertEqual((late.closed, len(server.quick.lost()), server.slow.lost()), (False, 1, []))
+                    assert one is not late
+                    assert one.put("A", SQUARE) == server.sessions[2].put("A", SQUARE) - 1
+            assert (late.closed, len(server.quick.lost()), server.slow.lost()) == (False, 1, [])
             late._wire.files[0].write(b"\n")
             testing.wait_until(lambda: not server.quick.lost())
             late._wire.timeout = 60
-            self.assertEqual([layer.name for layer in late.layers()], ["A"])
+            assert [layer.name for layer in late.layers()] == ["A"]
             with server.session() as one, server.session() as other:
-                self.assertIn(late, (one, other))
+                assert late in (one, other)
 
     def test_a_reply_of_which_a_part_came_in_time_is_passed_over_whole(self) -> None:
         lines_in, lines = os.pipe()
@@ -359,11 +343,11 @@ class Sessions(ClientCase):
             self.assertRaises(TimeoutError, one.layers)
             out.write(b" = A\nok 7\n")
             one.settle()
-            self.assertEqual(one.drop("A"), 7)
+            assert one.drop("A") == 7
             self.assertRaises(TimeoutError, list, one.answers(["LOCATE A 1 1", "DROP A", "LAYERS"]))
             out.write(b"in\nok 8\nlayers 1\nB = A\nok 9\n")
             one.settle()
-            self.assertEqual(one.drop("A"), 9)
+            assert one.drop("A") == 9
             one.close()
             self.assertRaises(Ended, one.layers)
 
@@ -375,15 +359,15 @@ class Sessions(ClientCase):
                 with server.session() as one:
                     one.close()
             self.assertRaises(Ended, server.session().__enter__)
-            self.assertEqual(len(server.quick.lost()), len(server.quick))
+            assert len(server.quick.lost()) == len(server.quick)
             with server.session(slow=True) as one:
-                self.assertEqual(one.layers(), [])
+                assert one.layers() == []
 
     def test_all_sessions_lent_is_a_timeout(self) -> None:
         with running() as server, server.session():
             began = time.monotonic()
             self.assertRaises(TimeoutError, server.session(slow=True, timeout=0.2).__enter__)
-            self.assertLess(time.monotonic() - began, 5)
+            assert time.monotonic() - began < 5
 
     def test_a_session_goes_over_named_pipes_and_over_standard_input(self) -> None:
         with testing.folder() as folder:
@@ -392,15 +376,15 @@ class Sessions(ClientCase):
                 os.mkfifo(end)
             run = subprocess.Popen([testing.PROGRAM, *ends])
             one = Session(ends[0].open("wb"), ends[1].open("rb"))
-            self.assertEqual(one.put("A", SQUARE), 1)
+            assert one.put("A", SQUARE) == 1
             one.close()
-            self.assertEqual(run.wait(30), 0)
+            assert run.wait(30) == 0
         run = subprocess.Popen([testing.PROGRAM], stdin=subprocess.PIPE, stdout=subprocess.PIPE)
         assert run.stdin and run.stdout
         one = Session(cast(BinaryIO, run.stdin), cast(BinaryIO, run.stdout))
-        self.assertEqual((one.put("A", SQUARE), one.locate("A", 3, 3)), (1, "in"))
+        assert (one.put("A", SQUARE), one.locate("A", 3, 3)) == (1, "in")
         one.close()
-        self.assertEqual(run.wait(30), 0)
+        assert run.wait(30) == 0
 
 
 class Processes(ClientCase):
@@ -409,14 +393,14 @@ class Processes(ClientCase):
             with running(store=folder / "map.db", create=True) as server:
                 one = server.sessions[0]
                 one.put("A", SQUARE)
-                self.assertEqual(one.sync(), 1)
+                assert one.sync() == 1
                 one.put("B", SHIFTED)
-                self.assertEqual(server.close(), (0, ""))
-                self.assertEqual(server.close(), (0, ""))
+                assert server.close() == (0, "")
+                assert server.close() == (0, "")
                 self.assertRaises(Ended, one.layers)
             with running(store=folder / "map.db") as server:
                 one = server.sessions[0]
-                self.assertEqual((one.sync(), [layer.name for layer in one.layers()]), (2, ["A", "B"]))
+                assert (one.sync(), [layer.name for layer in one.layers()]) == (2, ["A", "B"])
 
     def test_several_read_one_store_at_once(self) -> None:
         with testing.folder() as folder:
@@ -427,12 +411,12 @@ class Processes(ClientCase):
             with running(store=store, read_only=True) as first, running(store=store, read_only=True) as second:
                 for server in (first, second):
                     one = server.sessions[0]
-                    self.assertEqual((one.locate("I", 1, 1), len(one.boundary("I").pieces)), ("in", 4))
+                    assert (one.locate("I", 1, 1), len(one.boundary("I").pieces)) == ("in", 4)
                 first.sessions[0].drop("I")
                 self.refused(30, first.sessions[0].sync)
-                self.assertEqual(second.sessions[0].locate("I", 1, 1), "in")
+                assert second.sessions[0].locate("I", 1, 1) == "in"
                 self.refused(30, lambda: running(store=store))
-            self.assertEqual(store.read_bytes(), before)
+            assert store.read_bytes() == before
 
     def test_a_start_that_fails_tells_the_programs_own_fault(self) -> None:
         with testing.folder() as folder:
@@ -454,7 +438,7 @@ class Processes(ClientCase):
             self.assertRaises(Ended, one.put, "A", SQUARE)
             self.assertRaises(Ended, server.sessions[1].layers)
             self.assertRaises(Ended, server.session().__enter__)
-            self.assertEqual(server.close(), (-signal.SIGKILL, ""))
+            assert server.close() == (-signal.SIGKILL, "")
 
     def test_nothing_is_left_open(self) -> None:
         def open_ones() -> int:
@@ -466,4 +450,4 @@ class Processes(ClientCase):
                 pass
             self.assertRaises(Refused, lambda: running(workers=9))
             self.assertRaises(FileNotFoundError, Server, program="/nowhere/overlay_live")
-        self.assertEqual(open_ones(), before)
+        assert open_ones() == before

@@ -1,7 +1,5 @@
 """Maps of which more features lie over one place than an expression has layers, beside unions by shapely."""
 
-from __future__ import annotations
-
 import itertools
 import random
 

@@ -1,7 +1,5 @@
 """The grid that maps get where none is named, and the line that says so."""
 
-from __future__ import annotations
-
 from fractions import Fraction
 
 import numpy as np

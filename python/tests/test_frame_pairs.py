@@ -1,7 +1,5 @@
 """overlayd.pairs beside shapely, geopandas and fractions."""
 
-from __future__ import annotations
-
 import itertools
 from fractions import Fraction
 from typing import Any

@@ -1,7 +1,5 @@
 """overlayd.overlay, check, derive, dissolve and clip beside geopandas and shapely."""
 
-from __future__ import annotations
-
 import subprocess
 import sys
 import warnings

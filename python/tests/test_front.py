@@ -1,7 +1,5 @@
 """Tests of the front as a function: from the landing page to items, boxes against brute force, tiles, changes."""
 
-from __future__ import annotations
-
 import random
 import re
 import unittest.mock
@@ -58,14 +56,10 @@ def found(value: dict[str, Any], document: dict[str, Any]) -> dict[str, Any]:
 
 
 class Iceland(FrontCase):
-    lines = (
-        *put_lines(), "DEFINE both = iceland_110m & iceland_50m", "DEFINE one = iceland_110m ^ iceland_50m",
-        "DEFINE none = one & both",
-    )
-    scale = {
-        "title": "Iceland", "factor": 42262, "factor_y": 100000, "origin": [-19, 65], "unit": "degree",
-        "crs": "OGC:CRS84", "digits": 7,
-    }
+    lines = (*put_lines(), "DEFINE both = iceland_110m & iceland_50m", "DEFINE one = iceland_110m ^ iceland_50m",
+             "DEFINE none = one & both")
+    scale = {"title": "Iceland", "factor": 42262, "factor_y": 100000, "origin": [-19, 65], "unit": "degree",
+             "crs": "OGC:CRS84", "digits": 7}
 
     def polygons(self, name: str) -> list[list[list[Place]]]:
         """The polygons of a derived layer in the world, by the client."""
@@ -75,36 +69,32 @@ class Iceland(FrontCase):
 
     def test_from_the_landing_page_to_an_item(self) -> None:
         landing = self.client.get("/")
-        self.assertEqual(landing["title"], "Iceland")
-        self.assertEqual(
-            self.client.ask(linked(landing, "service-desc")).headers["Content-Type"],
-            "application/vnd.oai.openapi+json;version=3.0",
-        )
+        assert landing["title"] == "Iceland"
+        assert self.client.ask(linked(landing, "service-desc")).headers["Content-Type"] == \
+            "application/vnd.oai.openapi+json;version=3.0"
         conformance = self.client.get(linked(landing, "conformance"))["conformsTo"]
-        self.assertEqual([one.rsplit("/", 1)[1] for one in conformance], ["core", "geojson", "oas30"])
+        assert [one.rsplit("/", 1)[1] for one in conformance] == ["core", "geojson", "oas30"]
         collections = self.client.get(linked(landing, "data"))["collections"]
-        self.assertEqual([one["id"] for one in collections], ["iceland_110m", "iceland_50m", "both", "one", "none"])
+        assert [one["id"] for one in collections] == ["iceland_110m", "iceland_50m", "both", "one", "none"]
         for one in collections:
-            self.assertEqual(self.client.get(linked(one, "self")), one)
-            self.assertEqual((one["itemType"], one["crs"], one["storageCrs"]), ("feature", one["crs"], one["crs"][0]))
+            assert self.client.get(linked(one, "self")) == one
+            assert (one["itemType"], one["crs"], one["storageCrs"]) == ("feature", one["crs"], one["crs"][0])
             answer = self.client.ask(linked(one, "items"))
-            self.assertEqual(answer.headers["Content-Type"], "application/geo+json")
+            assert answer.headers["Content-Type"] == "application/geo+json"
             items = answer.value
-            self.assertEqual((items["type"], items["revision"]), ("FeatureCollection", one["revision"]))
-            self.assertEqual(items["numberMatched"], len(items["features"]))
+            assert (items["type"], items["revision"]) == ("FeatureCollection", one["revision"])
+            assert items["numberMatched"] == len(items["features"])
             for feature in items["features"][:2]:
                 item = self.client.get(f"{linked(one, 'self')}/items/{feature['id']}")
-                self.assertEqual({key: item[key] for key in feature}, feature)
-                self.assertEqual(linked(item, "collection"), linked(one, "self"))
+                assert {key: item[key] for key in feature} == feature
+                assert linked(item, "collection") == linked(one, "self")
 
     def test_the_description_names_each_page(self) -> None:
         """Each path of the description answers, and takes the words that it lists."""
         document = self.client.get("/api")
-        self.assertEqual((document["openapi"], document["servers"]), ("3.0.3", [{"url": ROOT}]))
-        words = {
-            "bbox": "-20,63,-18,64", "limit": "2", "offset": "1", "datetime": "2020-01-01/..", "x": "-19", "y": "65",
-            "crs": "http://www.opengis.net/def/crs/OGC/1.3/CRS84", "columns": "16,17",
-        }
+        assert (document["openapi"], document["servers"]) == ("3.0.3", [{"url": ROOT}])
+        words = {"bbox": "-20,63,-18,64", "limit": "2", "offset": "1", "datetime": "2020-01-01/..", "x": "-19",
+                 "y": "65", "crs": "http://www.opengis.net/def/crs/OGC/1.3/CRS84", "columns": "16,17"}
         words["bbox-crs"], words["f"] = words["crs"], "json"
         words["revision"] = self.client.get("/collections/both")["revision"]
         for path, methods in document["paths"].items():
@@ -113,40 +103,36 @@ class Iceland(FrontCase):
                 listed = [one["name"] for one in given if one["in"] == "query"]
                 asked = path.format(collectionId="both", featureId=1)
                 self.client.get(f"{asked}?{urllib.parse.urlencode({name: words[name] for name in listed})}")
-        self.assertEqual(
-            {path for path, methods in document["paths"].items() if set(methods) & {"put", "delete", "post"}},
-            {"/collections/{collectionId}", "/batch"},
-        )
+        assert {path for path, methods in document["paths"].items() if set(methods) & {"put", "delete", "post"}} == \
+            {"/collections/{collectionId}", "/batch"}
 
     def test_pages_of_items_are_all_of_them(self) -> None:
         whole = self.client.get("/collections/one/items")
         found, path, pages = [], "/collections/one/items?limit=7", 0
         while path:
             page = self.client.get(path)
-            self.assertEqual(
-                (page["numberMatched"], page["numberReturned"]), (whole["numberMatched"], len(page["features"]))
-            )
+            assert (page["numberMatched"], page["numberReturned"]) == (whole["numberMatched"], len(page["features"]))
             found += page["features"]
             pages += 1
             path = linked(page, "next") if any(link["rel"] == "next" for link in page["links"]) else ""
-        self.assertEqual(found, whole["features"])
-        self.assertEqual(pages, -(-len(found) // 7))
-        self.assertEqual(linked(page, "prev").count("offset="), 1)
+        assert found == whole["features"]
+        assert pages == -(-len(found) // 7)
+        assert linked(page, "prev").count("offset=") == 1
 
     def test_geometry_is_the_exact_one_rounded(self) -> None:
         for name in ("both", "one", "none"):
             polygons, features = self.polygons(name), self.client.get(f"/collections/{name}/items")["features"]
-            self.assertEqual(len(polygons), len(features))
+            assert len(polygons) == len(features)
             for polygon, feature in zip(polygons, features):
                 rings = feature["geometry"]["coordinates"]
-                self.assertEqual([len(ring) for ring in rings], [len(ring) + 1 for ring in polygon])
+                assert [len(ring) for ring in rings] == [len(ring) + 1 for ring in polygon]
                 for ring, corners in zip(rings, polygon):
-                    self.assertEqual(ring[0], ring[-1])
+                    assert ring[0] == ring[-1]
                     for position, corner in zip(ring, corners):
                         for given, right in zip(position, corner):
-                            self.assertLessEqual(abs(Fraction(Decimal(repr(given))) - right), Fraction(1, 2 * 10**7))
+                            assert abs(Fraction(Decimal(repr(given))) - right) <= Fraction(1, 2 * 10**7)
                 area = Fraction(Decimal(repr(feature["properties"]["area"])))
-                self.assertLessEqual(abs(area - exact_area(polygon)), Fraction(1, 2 * 10**7))
+                assert abs(area - exact_area(polygon)) <= Fraction(1, 2 * 10**7)
 
     def test_a_base_layer_is_its_rings(self) -> None:
         rings = self.client.get("/collections/iceland_110m/items")["features"][0]["geometry"]["coordinates"]
@@ -154,8 +140,8 @@ class Iceland(FrontCase):
             text = one.layers()[0].text or ""
         corners = [tuple(map(int, pair.split())) for pair in text.strip("MULTIPOYGN() ").split(", ")][:-1]
         right = {(round(x / 42262 - 19, 7), round(y / 100000 + 65, 7)) for x, y in corners}
-        self.assertEqual({tuple(position) for position in rings[0]}, right)
-        self.assertEqual(len(rings), 1)
+        assert {tuple(position) for position in rings[0]} == right
+        assert len(rings) == 1
 
     def test_boxes_against_brute_force(self) -> None:
         polygons, source = self.polygons("one"), random.Random(5)
@@ -166,10 +152,10 @@ class Iceland(FrontCase):
             words = [f"{n:.{number % 6}f}" for n in (x, y, x + width, y + width / 2)]
             right = [place for place, polygon in enumerate(polygons, 1) if meets(polygon, Box(*map(Fraction, words)))]
             found = self.client.get(f"/collections/one/items?bbox={','.join(words)}")
-            self.assertEqual([one["id"] for one in found["features"]], right, words)
-            self.assertEqual(found["numberMatched"], len(right))
+            assert [one["id"] for one in found["features"]] == right, words
+            assert found["numberMatched"] == len(right)
             sizes.add(len(right))
-        self.assertGreater(len(sizes), 3)
+        assert len(sizes) > 3
 
     def test_a_box_by_a_corner_in_fractions_is_exact(self) -> None:
         """The least corner of each polygon, most of them crossings, as a box of one point; and a
@@ -181,23 +167,21 @@ class Iceland(FrontCase):
             words = [f"{n.numerator}/{n.denominator}" for n in (x, y, x, y)]
             if all(len(word) < 40 for word in words):
                 found = self.client.get(f"/collections/one/items?bbox={','.join(words)}")["features"]
-                self.assertIn(number, [one["id"] for one in found])
+                assert number in [one["id"] for one in found]
                 tried += 1
             words = ["-30", "60", f"{Decimal(before.numerator) / Decimal(before.denominator):.18f}", "70"]
             found = self.client.get(f"/collections/one/items?bbox={','.join(words)}")["features"]
-            self.assertNotIn(number, [one["id"] for one in found])
-        self.assertGreater(tried, 5)
+            assert number not in [one["id"] for one in found]
+        assert tried > 5
 
     def test_a_box_over_the_180th_meridian(self) -> None:
-        self.assertEqual(self.client.get("/collections/one/items?bbox=170,60,-170,70")["numberMatched"], 0)
+        assert self.client.get("/collections/one/items?bbox=170,60,-170,70")["numberMatched"] == 0
         everything = self.client.get("/collections/one/items")["numberMatched"]
-        self.assertEqual(self.client.get("/collections/one/items?bbox=170,60,-1,70")["numberMatched"], everything)
+        assert self.client.get("/collections/one/items?bbox=170,60,-1,70")["numberMatched"] == everything
 
     def test_a_box_with_heights(self) -> None:
-        self.assertEqual(
-            self.client.get("/collections/one/items?bbox=-20,63,0,-18,64,9")["features"],
-            self.client.get("/collections/one/items?bbox=-20,63,-18,64")["features"],
-        )
+        assert self.client.get("/collections/one/items?bbox=-20,63,0,-18,64,9")["features"] == \
+            self.client.get("/collections/one/items?bbox=-20,63,-18,64")["features"]
 
     def test_an_extent_is_the_box_of_the_layer(self) -> None:
         self.wait_for("both", "one", "none")
@@ -205,85 +189,80 @@ class Iceland(FrontCase):
             corners = [corner for polygon in self.polygons(name) for ring in polygon for corner in ring]
             xs, ys = zip(*corners)
             right = [float(round(n, 7)) for n in (min(xs), min(ys), max(xs), max(ys))]
-            self.assertEqual(self.client.get(f"/collections/{name}")["extent"]["spatial"]["bbox"], [right])
-        self.assertNotIn("extent", self.client.get("/collections/none"))
+            assert self.client.get(f"/collections/{name}")["extent"]["spatial"]["bbox"] == [right]
+        assert "extent" not in self.client.get("/collections/none")
 
     def test_points(self) -> None:
         found = self.client.get("/locate?x=-19&y=65")
-        self.assertEqual(
-            found,
-            {
+        assert found == {
                 "places": {"iceland_110m": "in", "iceland_50m": "in", "both": "in", "one": "out", "none": "out"},
                 "asked": [0, 0, 1], "point": [-19, 65], "exact": True,
-            },
-        )
-        self.assertEqual(self.client.get("/collections/one/locate?x=-19&y=65")["place"], "out")
+            }
+        assert self.client.get("/collections/one/locate?x=-19&y=65")["place"] == "out"
         # The first corner of the coarse outline, as it is stored, and what lies a hair beside it.
         corner = f"x={189812 - 19 * 42262}/42262&y={145589 + 65 * 100000}/100000"
-        self.assertEqual(self.client.get(f"/locate?{corner}")["places"]["iceland_110m"], "edge")
+        assert self.client.get(f"/locate?{corner}")["places"]["iceland_110m"] == "edge"
         found = self.client.get(f"/locate?x={189812 - 19 * 42262}/42262&y=66.455890001")
-        self.assertEqual((found["exact"], found["asked"][2]), (False, 1024))
-        self.assertEqual(found["places"]["iceland_110m"], "edge")
+        assert (found["exact"], found["asked"][2]) == (False, 1024)
+        assert found["places"]["iceland_110m"] == "edge"
 
     def test_tiles_are_the_pieces_of_columns(self) -> None:
         self.wait_for("both")
         found = self.client.get("/collections/both/tiles")
-        self.assertEqual([tile["column"] for tile in found["tiles"]], list(range(limits.COLUMNS)))
+        assert [tile["column"] for tile in found["tiles"]] == list(range(limits.COLUMNS))
         with self.server.session() as one:
             columns = one.columns("both")
         for tile, pieces in zip(found["tiles"], columns):
-            self.assertEqual(
-                tile["lines"], [[self.store.scale.position(end) for end in piece] for piece in pieces or ()]
-            )
+            assert tile["lines"] == [[self.store.scale.position(end) for end in piece] for piece in pieces or ()]
         some = self.client.get("/collections/both/tiles?columns=14,3,14")["tiles"]
-        self.assertEqual(some, [found["tiles"][3], found["tiles"][14]])
+        assert some == [found["tiles"][3], found["tiles"][14]]
 
     def test_what_has_not_changed_is_not_sent_again(self) -> None:
         first = self.client.ask("/collections/both/items")
         again = self.client.ask("/collections/both/items", headers={"HTTP_IF_NONE_MATCH": first.headers["ETag"]})
-        self.assertEqual((again.status, again.value), (304, b""))
-        self.assertNotIn("Content-Length", again.headers)
+        assert (again.status, again.value) == (304, b"")
+        assert "Content-Length" not in again.headers
 
     def test_headers(self) -> None:
         answer = self.client.ask("/collections/both/items?limit=1")
-        self.assertEqual(answer.headers["Content-Crs"], "<http://www.opengis.net/def/crs/OGC/1.3/CRS84>")
+        assert answer.headers["Content-Crs"] == "<http://www.opengis.net/def/crs/OGC/1.3/CRS84>"
         for path in ("/", "/nowhere", "/status"):
             headers = self.client.ask(path).headers
-            self.assertEqual(headers["X-Content-Type-Options"], "nosniff")
-            self.assertIn("default-src 'none'", headers["Content-Security-Policy"])
-            self.assertNotIn("Access-Control-Allow-Origin", headers)
+            assert headers["X-Content-Type-Options"] == "nosniff"
+            assert "default-src 'none'" in headers["Content-Security-Policy"]
+            assert "Access-Control-Allow-Origin" not in headers
         head = self.client.ask("/status", "HEAD")
-        self.assertEqual((head.status, head.value), (200, b""))
-        self.assertEqual(head.headers["Content-Length"], self.client.ask("/status").headers["Content-Length"])
+        assert (head.status, head.value) == (200, b"")
+        assert head.headers["Content-Length"] == self.client.ask("/status").headers["Content-Length"]
 
     def test_the_page_is_for_browsers(self) -> None:
         accept = {"HTTP_ACCEPT": "text/html,application/xhtml+xml"}
         for page in (self.client.ask("/", headers=accept), self.client.ask("/?f=html")):
-            self.assertEqual((page.status, page.headers["Content-Type"]), (200, "text/html; charset=utf-8"))
-        self.assertEqual(self.client.ask("/?f=json", headers=accept).headers["Content-Type"], "application/json")
+            assert (page.status, page.headers["Content-Type"]) == (200, "text/html; charset=utf-8")
+        assert self.client.ask("/?f=json", headers=accept).headers["Content-Type"] == "application/json"
         names = [path.name for path in PAGE.iterdir() if path.suffix != ".html"]
-        self.assertGreater(len(names), 4)
+        assert len(names) > 4
         for name in names:
-            self.assertEqual(self.client.ask(f"/{name}").status, 200, name)
+            assert self.client.ask(f"/{name}").status == 200, name
         for file in PAGE.iterdir():
             self.assertNotRegex(file.read_text(encoding="utf-8"), "https?:", file.name)
 
     def test_a_file_that_has_not_changed_is_not_sent_again_and_a_part_may_be_asked(self) -> None:
         for path in ("/map.js", "/leaflet/leaflet.js", "/?f=html"):
             whole = self.client.ask(path)
-            self.assertEqual(whole.status, 200, path)
+            assert whole.status == 200, path
             for name, word in (("HTTP_IF_NONE_MATCH", "ETag"), ("HTTP_IF_MODIFIED_SINCE", "Last-Modified")):
                 again = self.client.ask(path, headers={name: whole.headers[word]})
-                self.assertEqual((again.status, again.value), (304, b""), (path, word))
-                self.assertIn("default-src 'none'", again.headers["Content-Security-Policy"])
+                assert (again.status, again.value) == (304, b""), (path, word)
+                assert "default-src 'none'" in again.headers["Content-Security-Policy"]
             some = self.client.ask(path, headers={"HTTP_RANGE": "bytes=3-9"})
-            self.assertEqual((some.status, some.value), (206, whole.value[3:10]), path)
-            self.assertEqual(some.headers["Content-Range"], f"bytes 3-9/{len(whole.value)}")
+            assert (some.status, some.value) == (206, whole.value[3:10]), path
+            assert some.headers["Content-Range"] == f"bytes 3-9/{len(whole.value)}"
             beyond = self.client.ask(path, headers={"HTTP_RANGE": f"bytes={len(whole.value)}-"})
-            self.assertEqual((beyond.status, beyond.value["code"]), (416, "416"))
-            self.assertEqual(beyond.headers["Content-Range"], f"bytes */{len(whole.value)}")
-        self.assertEqual(self.client.ask("/map.js").headers["Cache-Control"], "no-cache")
-        self.assertIn("max-age=86400", self.client.ask("/leaflet/leaflet.js").headers["Cache-Control"])
+            assert (beyond.status, beyond.value["code"]) == (416, "416")
+            assert beyond.headers["Content-Range"] == f"bytes */{len(whole.value)}"
+        assert self.client.ask("/map.js").headers["Cache-Control"] == "no-cache"
+        assert "max-age=86400" in self.client.ask("/leaflet/leaflet.js").headers["Cache-Control"]
 
     def test_what_is_refused_is_told_beside_it(self) -> None:
         """Each form of the page, and its head, has a place of its own for what is reported, and the
@@ -291,14 +270,12 @@ class Iceland(FrontCase):
         folder = PAGE
         parts = re.split(r"<(?=section|header|footer)", (folder / "map.html").read_text(encoding="utf-8"))
         places = {place: part for part in parts for place in re.findall(r'id="(told[a-z-]*)"', part)}
-        for place, beside in (
-            ("told", 'id="status"'), ("told-layers", 'id="layers"'), ("told-define", 'id="define"'),
-            ("told-asking", 'id="asking"'),
-        ):
-            self.assertIn(beside, places[place])
+        for place, beside in (("told", 'id="status"'), ("told-layers", 'id="layers"'), ("told-define", 'id="define"'),
+                              ("told-asking", 'id="asking"')):
+            assert beside in places[place]
         script = "".join(file.read_text(encoding="utf-8") for file in folder.glob("*.js"))
-        self.assertEqual(set(re.findall(r'"(told[a-z-]*)"', script)) - set(places), set())
-        self.assertLessEqual({"told-define", "told-asking", "told-layers"}, set(re.findall(r'"(told[a-z-]+)"', script)))
+        assert set(re.findall(r'"(told[a-z-]*)"', script)) - set(places) == set()
+        assert {"told-define", "told-asking", "told-layers"} <= set(re.findall(r'"(told[a-z-]+)"', script))
 
 
 class Changes(FrontCase):
@@ -315,7 +292,7 @@ class Changes(FrontCase):
 
     def test_layers_are_put_defined_and_dropped(self) -> None:
         made = self.client.change("/collections/A", "PUT", self.square)
-        self.assertEqual(made, {"version": self.began + 1, "durable": None, "moved": 0.0})
+        assert made == {"version": self.began + 1, "durable": None, "moved": 0.0}
         made = self.client.change(
             "/collections/B",
             "PUT",
@@ -327,30 +304,28 @@ class Changes(FrontCase):
         self.assertAlmostEqual(made["moved"], 0.001)
         self.client.change("/collections/I", "PUT", {"definition": " A & B"})
         status = self.client.get("/status")
-        self.assertEqual((status["version"], status["durable"], status["layers"]), (self.began + 3, None, 3))
-        self.assertEqual(self.client.get("/collections/I")["definition"], "A & B")
-        self.assertEqual(self.client.get("/locate?x=500.08&y=0.07")["places"], {"A": "in", "B": "in", "I": "in"})
-        self.assertEqual(self.client.get("/locate?x=500.1&y=0.02")["places"]["I"], "edge")
+        assert (status["version"], status["durable"], status["layers"]) == (self.began + 3, None, 3)
+        assert self.client.get("/collections/I")["definition"] == "A & B"
+        assert self.client.get("/locate?x=500.08&y=0.07")["places"] == {"A": "in", "B": "in", "I": "in"}
+        assert self.client.get("/locate?x=500.1&y=0.02")["places"]["I"] == "edge"
         self.client.change("/collections/I", "DELETE")
-        self.assertEqual(self.client.ask("/collections/I").status, 404)
+        assert self.client.ask("/collections/I").status == 404
 
     def test_a_batch_is_one_version_or_none(self) -> None:
-        commands = [
-            {"put": "A", "geometry": self.square}, {"put": "B", "geometry": self.square},
-            {"define": "I", "definition": "A - B"},
-        ]
-        self.assertEqual(self.client.change("/batch", "POST", {"commands": commands})["version"], self.began + 1)
+        commands = [{"put": "A", "geometry": self.square}, {"put": "B", "geometry": self.square},
+                    {"define": "I", "definition": "A - B"}]
+        assert self.client.change("/batch", "POST", {"commands": commands})["version"] == self.began + 1
         refused = self.client.ask("/batch", "POST", {"commands": [{"drop": "I"}, {"drop": "Z"}]})
-        self.assertEqual((refused.status, refused.value["code"], refused.value["command"]), (404, "10", 1))
-        self.assertEqual([one["id"] for one in self.client.get("/collections")["collections"]], ["A", "B", "I"])
-        self.assertEqual(self.client.change("/batch", "POST", {"commands": [{"drop": "I"}]})["version"], self.began + 2)
+        assert (refused.status, refused.value["code"], refused.value["command"]) == (404, "10", 1)
+        assert [one["id"] for one in self.client.get("/collections")["collections"]] == ["A", "B", "I"]
+        assert self.client.change("/batch", "POST", {"commands": [{"drop": "I"}]})["version"] == self.began + 2
 
     def test_a_layer_without_rings_can_be_put(self) -> None:
         for kind in ("Polygon", "MultiPolygon"):
             self.client.change("/collections/E", "PUT", {"type": kind, "coordinates": []})
             with self.server.session() as one:
-                self.assertEqual({layer.name: layer.text for layer in one.layers()}["E"], "MULTIPOLYGON EMPTY")
-            self.assertEqual(self.client.get("/collections/E/items")["features"], [])
+                assert {layer.name: layer.text for layer in one.layers()}["E"] == "MULTIPOLYGON EMPTY"
+            assert self.client.get("/collections/E/items")["features"] == []
             self.client.change("/collections/E", "DELETE")
 
     def test_a_change_of_one_layer_leaves_the_revision_of_another(self) -> None:
@@ -358,27 +333,25 @@ class Changes(FrontCase):
         self.client.change("/collections/I", "PUT", {"definition": "A"})
         before = self.client.get("/collections/I")["revision"]
         self.client.change("/collections/B", "PUT", self.square)
-        self.assertEqual(self.client.get("/collections/I")["revision"], before)
+        assert self.client.get("/collections/I")["revision"] == before
         self.client.change("/collections/A", "PUT", self.square | {"coordinates": []})
         after = self.client.get("/collections/I")
-        self.assertNotEqual(after["revision"], before)
-        self.assertNotIn("extent", after)
-        self.assertEqual(self.client.get("/collections/I/items")["features"], [])
+        assert after["revision"] != before
+        assert "extent" not in after
+        assert self.client.get("/collections/I/items")["features"] == []
         self.client.change("/collections/A", "PUT", self.square)
-        self.assertEqual(self.client.get("/collections/I")["revision"], before)
+        assert self.client.get("/collections/I")["revision"] == before
 
     def test_pages_go_on_with_their_revision(self) -> None:
-        two = {
-            "type": "MultiPolygon",
-            "coordinates": [self.square["coordinates"], [[[502, 0], [503, 0], [503, 1], [502, 0]]]],
-        }
+        two = {"type": "MultiPolygon",
+               "coordinates": [self.square["coordinates"], [[[502, 0], [503, 0], [503, 1], [502, 0]]]]}
         self.client.change("/collections/A", "PUT", two)
         page = self.client.get("/collections/A/items?limit=1")
         self.client.change("/collections/A", "PUT", self.square)
         rest = self.client.get(linked(page, "next"))
-        self.assertEqual((rest["numberMatched"], rest["features"][0]["id"]), (2, 2))
-        self.assertEqual(self.client.get("/collections/A/items")["numberMatched"], 1)
-        self.assertEqual(self.client.ask("/collections/A/items?revision=0123").status, 409)
+        assert (rest["numberMatched"], rest["features"][0]["id"]) == (2, 2)
+        assert self.client.get("/collections/A/items")["numberMatched"] == 1
+        assert self.client.ask("/collections/A/items?revision=0123").status == 409
 
     def test_tiles_that_are_pending_are_null(self) -> None:
         lines = [
@@ -390,8 +363,8 @@ class Changes(FrontCase):
         self.client.get("/collections/D")  # its extent, though it may be pending
         self.wait_for("D")
         built = [tile["lines"] for tile in self.client.get("/collections/D/tiles?columns=31,32")["tiles"]]
-        self.assertNotIn(None, built)
-        self.assertTrue(all(one in (None, right) for one, right in zip(seen, built)))
+        assert None not in built
+        assert all(one in (None, right) for one, right in zip(seen, built))
 
     def extent(self, name: str) -> Box | None:
         with self.store.view() as view:
@@ -400,18 +373,16 @@ class Changes(FrontCase):
     def test_of_a_layer_that_is_not_built_the_extent_is_that_of_what_it_reaches(self) -> None:
         self.store.change([f"PUT A {SQUARE}", f"PUT B {SHIFTED}", f"PUT C {BAR}", "DEFINE I = A & B"])
         self.wait_for("I")
-        self.assertEqual(self.extent("I"), Box(*map(Fraction, (5, 5, 10, 10))))
+        assert self.extent("I") == Box(*map(Fraction, (5, 5, 10, 10)))
         self.store.change([f"PUT A {SQUARE.replace('10', '11')}"])
         with unittest.mock.patch.object(View, "columns", return_value=[None]):
-            self.assertEqual(self.extent("I"), Box(*map(Fraction, (0, 0, 15, 15))))
+            assert self.extent("I") == Box(*map(Fraction, (0, 0, 15, 15)))
         self.wait_for("I")
-        self.assertEqual(self.extent("I"), Box(*map(Fraction, (5, 5, 11, 11))))
+        assert self.extent("I") == Box(*map(Fraction, (5, 5, 11, 11)))
 
     def test_corners_are_written_with_the_digits_of_the_scale(self) -> None:
         self.store.change([f"PUT T {TRIANGLE}", f"PUT S {BAR}", "DEFINE I = T & S"])
         ring = self.client.get("/collections/I/items")["features"][0]["geometry"]["coordinates"][0]
-        self.assertEqual(
-            ring, [[500.01, 0.0033], [500.02, 0.0067], [500.02, 0.0133], [500.01, 0.0167], [500.01, 0.0033]]
-        )
-        self.assertEqual(self.client.get("/conformance"), {"conformsTo": []})
-        self.assertEqual(self.client.get("/collections/I")["storageCrs"], "http://www.opengis.net/def/crs/EPSG/0/32633")
+        assert ring == [[500.01, 0.0033], [500.02, 0.0067], [500.02, 0.0133], [500.01, 0.0167], [500.01, 0.0033]]
+        assert self.client.get("/conformance") == {"conformsTo": []}
+        assert self.client.get("/collections/I")["storageCrs"] == "http://www.opengis.net/def/crs/EPSG/0/32633"

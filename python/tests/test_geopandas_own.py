@@ -2,8 +2,6 @@
 
 Debian has no data for some of its tests, which fail with geopandas itself: what it passes here is what is counted."""
 
-from __future__ import annotations
-
 import pathlib
 import re
 import subprocess

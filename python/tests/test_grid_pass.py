@@ -1,7 +1,5 @@
 """Snap rounding: each step becomes the hot points whose pixels it meets, as fractions say; and what follows from it."""
 
-from __future__ import annotations
-
 import random
 from fractions import Fraction
 

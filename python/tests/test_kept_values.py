@@ -1,7 +1,5 @@
 """Tests of values that are kept while there is room: who makes room, how often they are weighed, and who makes one."""
 
-from __future__ import annotations
-
 import threading
 import unittest
 

@@ -1,7 +1,5 @@
 """Overlays, checks and expressions by the kernel, beside areas by slabs of fractions."""
 
-from __future__ import annotations
-
 import dataclasses
 import itertools
 import json

@@ -1,7 +1,5 @@
 """Features in whole numbers, the pairs of their boxes, and blocks of them."""
 
-from __future__ import annotations
-
 import re
 from pathlib import Path
 

@@ -1,7 +1,5 @@
 """Replies as arrays, and the program as a process: by a stand-in that replies to blocks as the page on formats says."""
 
-from __future__ import annotations
-
 import os
 import signal
 import subprocess

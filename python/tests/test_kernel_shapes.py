@@ -1,7 +1,5 @@
 """Columns of Well-Known Binary: what is read is what a plain reader reads; and what is written reads back."""
 
-from __future__ import annotations
-
 import struct
 
 import numpy as np

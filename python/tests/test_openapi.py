@@ -2,8 +2,6 @@
 
 The rules of OpenAPI that are looked at are written down here; jsonschema says what is of a schema."""
 
-from __future__ import annotations
-
 import json
 import re
 import unittest

@@ -1,7 +1,5 @@
 """overlayd.partitioned: rows of frames in partitions are those of the whole frames."""
 
-from __future__ import annotations
-
 from typing import Any
 
 import geopandas

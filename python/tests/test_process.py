@@ -1,7 +1,5 @@
 """Tests of the front as a process: its words, its end, and what it reads of a store."""
 
-from __future__ import annotations
-
 import contextlib
 import os
 import pathlib

@@ -1,7 +1,5 @@
 """The plugin of QGIS: its tests, in a process of their own, where QGIS is installed."""
 
-from __future__ import annotations
-
 import os
 import subprocess
 import sys

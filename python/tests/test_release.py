@@ -1,7 +1,5 @@
 """Tests of release/make: the same bytes twice, and files that work where they are unpacked or installed. The kit's
-`rt`, debhelper and help2man are needed. trials/clean_root.py tries the package in a clean root."""
-
-from __future__ import annotations
+`rt`, debhelper and help2man are needed. release/try tries the package in a clean root."""
 
 import gzip
 import json
@@ -209,11 +207,10 @@ def test_each_command_has_a_page_without_faults(built: Built) -> None:
 
 
 def test_bash_completes_options_and_subcommands(built: Built) -> None:
-    for words, wanted in (
-        ("overlay which --st", "--store"), ("overlay che", "check"), ("overlay rings --ar", "--areas"),
-        ("overlay export --ou", "--output"), ("overlay --ver", "--version"),
-        ("overlay serve --store nothing --wr", "--writable"), ("overlay show --on", "--only-make"),
-    ):
+    for words, wanted in (("overlay which --st", "--store"), ("overlay che", "check"),
+                          ("overlay rings --ar", "--areas"), ("overlay export --ou", "--output"),
+                          ("overlay --ver", "--version"), ("overlay serve --store nothing --wr", "--writable"),
+                          ("overlay show --on", "--only-make")):
         text = (f"source {built.prefix}/share/bash-completion/completions/overlay; COMP_WORDS=({words}); "
                 f"COMP_CWORD={len(words.split()) - 1}; _overlay_completion overlay; echo \"${{COMPREPLY[*]}}\"")
         done = subprocess.run(["bash", "-c", text], capture_output=True, text=True, check=True,

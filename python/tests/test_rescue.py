@@ -1,7 +1,5 @@
 """Tests of what becomes of a store that is not written any more."""
 
-from __future__ import annotations
-
 import errno
 import resource
 import threading

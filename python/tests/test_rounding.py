@@ -1,8 +1,6 @@
 """Tests that one polygon becomes the same whole numbers by every way in: scripts of texts and of files that GDAL reads,
 maps of `overlay pieces`, requests of the front, and the client; and that LOCATE takes its numbers as they do."""
 
-from __future__ import annotations
-
 import json
 import pathlib
 import subprocess

@@ -1,7 +1,5 @@
 """Tables of the kernel's rows, read back."""
 
-from __future__ import annotations
-
 import csv
 from fractions import Fraction
 from pathlib import Path
@@ -12,6 +10,7 @@ from osgeo import gdal
 
 from overlayd.files.row_tables import HEADS, Named, write_array, write_package, write_text
 from overlayd.geometry.flat_arrays import Numbers
+from overlayd.geometry.shortest import PAD, spelled
 from overlayd.kernel.columns import Column
 from overlayd.kernel.laying import Laid
 from overlayd.kernel.overlaying import Overlay
@@ -83,6 +82,17 @@ def test_a_package_has_rows_and_outlines(tmp_path: Path, system: str | None) -> 
             assert [one.GetField("b") for one in layer] == ["1"] and layer.GetExtent() == (0, 2, 0, 2)
         del layer, file, found
     assert [one.name for one in tmp_path.iterdir()] == ["t.gpkg"]
+
+
+@pytest.mark.parametrize("power", [*range(-44, 18), 308])
+def test_numbers_are_spelled_as_python_spells_them(power: int) -> None:
+    draw = np.random.default_rng(power + 44)
+    parts = draw.random(500) * 10.0**power
+    whole = np.rint(draw.random(500) * 10.0 ** (3 + power % 12)) / 10.0 ** (power % 7)
+    steps = [np.nextafter(whole, 0), np.spacing(whole) * 4, 2.0 ** draw.integers(-140, 60, 500), -whole]
+    given = np.concatenate([parts, whole, *steps, [0.0, -0.0, 10.0**power, 5e-324, np.inf, np.nan]])
+    found = [column[column != PAD].tobytes().decode() for column in spelled(given).T]
+    assert found == [*map(repr, given.tolist())]
 
 
 def test_tables_of_no_rows(tmp_path: Path) -> None:

@@ -2,98 +2,72 @@
 
 import re
 import unittest
-import unittest.mock
+
+import pytest
 
 from overlayd.commands import import_ as to_script
 from .common import SQUARE, content, on_file, outcome, path
 
+FAR = "POLYGON ((500000 4600000, 500010 4600000, 500010 4600010, 500000 4600000))"
+ONE = ("--factor", 1)
+# By what each shows: a text, further words, the status, and of the script and of what is reported parts, or where they
+# end a line all.
+CASES: dict[str, tuple[str, tuple[object, ...], int, str, tuple[str, ...]]] = {
+    "whole numbers stay": (SQUARE, (), 0, f"PUT input_file {SQUARE}\n",
+                           ("0 of 10 coordinates rounded, largest move 0, 0 equal points merged",)),
+    "a factor and an origin": (
+        "POLYGON ((100.5 7, 101.25 7, 101.25 8.126, 100.5 7))", ("--factor", 100, "--origin", 100, 7, "--name", "P"), 0,
+        "PUT P POLYGON ((50 0, 125 0, 125 113, 50 0))\n", ("1 of 8 coordinates rounded, largest move 0.004,",)),
+    "another factor for y": ("POLYGON ((0 0, 1 0, 1 1, 0 0))", ("--factor", 2, "--factor-y", "0.5"), 0,
+                             "((0 0, 2 0, 2 1, 0 0))", ()),
+    "halves go up": ("POLYGON ((-1.5 -2.5, 1.5 0, 2.5 9, -1.5 -2.5))", ONE, 0, "((-1 -2, 2 0, 3 9, -1 -2))",
+                     ("6 of 8 coordinates rounded, largest move 0.5,",)),
+    "digits beyond a double are reported": (
+        "POLYGON ((0.49999999999999999999 0, 9 0, 9 9, 0.49999999999999999999 0))", ONE, 0, "((1 0, 9 0, 9 9, 1 0))",
+        ("2 of 8 coordinates rounded, largest move 0.5, 0 equal points merged, 2 coordinates of more digits than a "
+         "double has, each taken for the nearest one",)),
+    "equal points are merged": ("POLYGON ((0 0, 0.2 0.1, 10 0, 10 10, 10.3 9.8, 0.4 0.4, 0 0))", ONE, 0,
+                                "((0 0, 10 0, 10 10, 0 0))", ("3 equal points merged",)),
+    "out of range, with a hint": (
+        FAR, (), 2, "", ("at factor 1, origin 0 0: 1 shapes are out of range; to be fitted: --factor 1 --origin 500005 "
+                         "4600005, or --fit\n",)),
+    "the hint works": (FAR, (*ONE, "--origin", 500005, 4600005), 0,
+                       "PUT input_file POLYGON ((-5 -5, 5 -5, 5 5, -5 -5))\n", ()),
+    "out of range at a factor that is said": (
+        FAR, ONE, 1, "", ("refused: FILE, text 1: out of range after scaling: 500000 4600000",)),
+    "the limit itself is in range": ("POLYGON ((1048576 -1048576, 0 0, 0 1, 1048576 -1048576))", (), 0, "PUT", ()),
+    "and no more": ("POLYGON ((1048576.5 -1048576, 0 0, 0 1, 1048576.5 -1048576))", (), 2, "", ()),
+    **{f"a hole: {reason} ({ring})": (
+        f"POLYGON ((0 0, 10 0, 10 10, 0 10, 0 0), ({ring}))", ONE, 1, f"PUT input_file {SQUARE}\n",
+        (f"refused: FILE, text 1: a hole: a ring {reason}",)) for ring, reason in (
+            ("5 5, 6 5, 5 5", "of 3 points"), ("5 5, 5.2 5, 5.2 5.2, 5 5", "that collapsed"),
+            ("5 5, 7 5, 6 5, 5 5", "that collapsed"))},
+    "a ring that is not closed": ("POLYGON ((0 0, 1 0, 1 1, 0 1))", (), 1, "", ()),
+    "an outer ring takes its holes along": (
+        "MULTIPOLYGON (((0 0, .1 0, .1 .1, 0 0), (1 1, 9 1, 9 9, 1 1)), ((0 0, 5 0, 5 5, 0 0)))", ONE, 1,
+        "PUT input_file POLYGON ((0 0, 5 0, 5 5, 0 0))\n", ("a polygon, for its outer ring: a ring that collapsed",)),
+    "other geometries are refused": (
+        f"POINT (1 2)\n{SQUARE}\nMULTIPOINT ((1 2), (3 4))", (), 1, f"PUT input_file {SQUARE}\n",
+        ("refused: FILE, text 1: no polygon: POINT", "refused: FILE, text 3: no polygon: MULTIPOINT")),
+    "texts of all kinds": (
+        "SRID=4326;polygon z ((0 0 7, 10 0 7, 10 10 7, 0 10 7, 0 0 7)) GEOMETRYCOLLECTION (POLYGON EMPTY, MULTIPOLYGON "
+        "(EMPTY, ((20 0, 3e1 0, 30 10, 20 0))))", (), 0,
+        "PUT input_file MULTIPOLYGON (((0 0, 10 0, 10 10, 0 10, 0 0)), ((20 0, 30 0, 30 10, 20 0)))\n",
+        ("further numbers of 5 points dropped",)),
+    "overlapping boxes": (SQUARE + SQUARE, (), 0, "PUT",
+                          ("layer input_file: 1 pairs of polygons with overlapping boxes",)),
+}
+
+
+@pytest.mark.parametrize("text, words, status, output, told", CASES.values(), ids=CASES)
+def test_a_text(text: str, words: tuple[object, ...], status: int, output: str, told: tuple[str, ...]) -> None:
+    found = on_file(to_script, text, *words)
+    assert (found[0], bool(found[1])) == (status, bool(output)), found
+    for part, whole in ((output, found[1]), *((part, found[2]) for part in told)):
+        assert part == whole if part.endswith("\n") else part in whole
+
 
 class ToScript(unittest.TestCase):
-    def test_whole_numbers_stay(self) -> None:
-        status, output, errors = on_file(to_script, SQUARE)
-        self.assertEqual((status, output), (0, f"PUT input_file {SQUARE}\n"))
-        self.assertIn("0 of 10 coordinates rounded, largest move 0, 0 equal points merged", errors)
-
-    def test_factor_and_origin(self) -> None:
-        text = "POLYGON ((100.5 7, 101.25 7, 101.25 8.126, 100.5 7))"
-        status, output, errors = on_file(to_script, text, "--factor", 100, "--origin", 100, 7, "--name", "P")
-        self.assertEqual((status, output), (0, "PUT P POLYGON ((50 0, 125 0, 125 113, 50 0))\n"))
-        self.assertIn("1 of 8 coordinates rounded, largest move 0.004,", errors)
-
-    def test_another_factor_for_y(self) -> None:
-        _, output, _ = on_file(to_script, "POLYGON ((0 0, 1 0, 1 1, 0 0))", "--factor", 2, "--factor-y", "0.5")
-        self.assertIn("((0 0, 2 0, 2 1, 0 0))", output)
-
-    def test_halves_go_up(self) -> None:
-        _, output, errors = on_file(to_script, "POLYGON ((-1.5 -2.5, 1.5 0, 2.5 9, -1.5 -2.5))", "--factor", 1)
-        self.assertIn("((-1 -2, 2 0, 3 9, -1 -2))", output)
-        self.assertIn("6 of 8 coordinates rounded, largest move 0.5,", errors)
-
-    def test_digits_beyond_a_double_are_reported(self) -> None:
-        text = "POLYGON ((0.49999999999999999999 0, 9 0, 9 9, 0.49999999999999999999 0))"
-        _, output, errors = on_file(to_script, text, "--factor", 1)
-        self.assertIn("((1 0, 9 0, 9 9, 1 0))", output)
-        self.assertIn(
-            "2 of 8 coordinates rounded, largest move 0.5, 0 equal points merged, 2 coordinates of more digits than a "
-            "double has, each taken for the nearest one", errors)
-
-    def test_equal_points_are_merged(self) -> None:
-        text = "POLYGON ((0 0, 0.2 0.1, 10 0, 10 10, 10.3 9.8, 0.4 0.4, 0 0))"
-        status, output, errors = on_file(to_script, text, "--factor", 1)
-        self.assertIn("((0 0, 10 0, 10 10, 0 0))", output)
-        self.assertIn("3 equal points merged", errors)
-        self.assertEqual(status, 0)
-
-    def test_out_of_range_with_a_hint_that_works(self) -> None:
-        text = "POLYGON ((500000 4600000, 500010 4600000, 500010 4600010, 500000 4600000))"
-        status, output, errors = on_file(to_script, text)
-        self.assertEqual((status, output), (2, ""))
-        self.assertEqual(errors, "at factor 1, origin 0 0: 1 shapes are out of range; to be fitted: --factor 1 "
-                                 "--origin 500005 4600005, or --fit\n")
-        status, output, errors = on_file(to_script, text, "--factor", 1, "--origin", 500005, 4600005)
-        self.assertEqual((status, output), (0, "PUT input_file POLYGON ((-5 -5, 5 -5, 5 5, -5 -5))\n"))
-        status, output, errors = on_file(to_script, text, "--factor", 1)
-        self.assertEqual((status, output), (1, ""))
-        self.assertIn("refused: FILE, text 1: out of range after scaling: 500000 4600000", errors)
-
-    def test_the_limit_itself_is_in_range(self) -> None:
-        text = "POLYGON ((1048576 -1048576, 0 0, 0 1, 1048576 -1048576))"
-        self.assertEqual(on_file(to_script, text)[0], 0)
-        self.assertEqual(on_file(to_script, text.replace("1048576 -", "1048576.5 -"))[0], 2)
-
-    def test_rings_that_are_no_rings(self) -> None:
-        hole = "POLYGON ((0 0, 10 0, 10 10, 0 10, 0 0), ({}))"
-        for text, reason in (
-            ("5 5, 6 5, 5 5", "a hole: a ring of 3 points"),
-            ("5 5, 5.2 5, 5.2 5.2, 5 5", "a hole: a ring that collapsed"),
-            ("5 5, 7 5, 6 5, 5 5", "a hole: a ring that collapsed"),
-        ):
-            status, output, errors = on_file(to_script, hole.format(text), "--factor", 1)
-            self.assertEqual((status, output), (1, f"PUT input_file {SQUARE}\n"))
-            self.assertIn(f"refused: FILE, text 1: {reason}", errors)
-        self.assertEqual(on_file(to_script, "POLYGON ((0 0, 1 0, 1 1, 0 1))")[:2], (1, ""))
-
-    def test_an_outer_ring_takes_its_holes_along(self) -> None:
-        text = "MULTIPOLYGON (((0 0, .1 0, .1 .1, 0 0), (1 1, 9 1, 9 9, 1 1)), ((0 0, 5 0, 5 5, 0 0)))"
-        status, output, errors = on_file(to_script, text, "--factor", 1)
-        self.assertEqual((status, output), (1, "PUT input_file POLYGON ((0 0, 5 0, 5 5, 0 0))\n"))
-        self.assertIn("a polygon, for its outer ring: a ring that collapsed", errors)
-
-    def test_other_geometries_are_refused(self) -> None:
-        status, output, errors = on_file(to_script, "POINT (1 2)\n" + SQUARE + "\nMULTIPOINT ((1 2), (3 4))")
-        self.assertEqual((status, output), (1, f"PUT input_file {SQUARE}\n"))
-        self.assertIn("refused: FILE, text 1: no polygon: POINT", errors)
-        self.assertIn("refused: FILE, text 3: no polygon: MULTIPOINT", errors)
-
-    def test_texts_of_all_kinds(self) -> None:
-        text = ("SRID=4326;polygon z ((0 0 7, 10 0 7, 10 10 7, 0 10 7, 0 0 7))"
-                " GEOMETRYCOLLECTION (POLYGON EMPTY, MULTIPOLYGON (EMPTY, ((20 0, 3e1 0, 30 10, 20 0))))")
-        status, output, errors = on_file(to_script, text)
-        self.assertEqual(status, 0)
-        self.assertEqual(output, "PUT input_file MULTIPOLYGON (((0 0, 10 0, 10 10, 0 10, 0 0)), "
-                                 "((20 0, 30 0, 30 10, 20 0)))\n")
-        self.assertIn("further numbers of 5 points dropped", errors)
-
     def test_texts_that_are_none(self) -> None:
         for text in ("POLYGON ((0 0, 1 0", "POLYGON (0)", "{\"type\": ", "POLYGON ((0 0, 1 1, 2 0, 0 0)) x", "?",
                      "POLYGON ((0 0, 1e99999999999999999999 1, 2 0, 0 0))", "{\"a\": 1e99999999999999999999}",
@@ -129,10 +103,6 @@ class ToScript(unittest.TestCase):
         status, output, errors = on_file(to_script, "\n".join([zigzag(1000), zigzag(1000), zigzag(1000)]))
         self.assertEqual((status, output), (1, ""))
         self.assertIn("refused: layer input_file: too many steps: 3000 of at most 2048", errors)
-
-    def test_overlapping_boxes_are_told(self) -> None:
-        errors = on_file(to_script, SQUARE + SQUARE)[2]
-        self.assertIn("layer input_file: 1 pairs of polygons with overlapping boxes", errors)
 
     def test_real_shapes(self) -> None:
         files = [path("data", f"iceland_{scale}.geojson") for scale in ("110m", "50m")]

@@ -1,7 +1,5 @@
 """Tests of the server: slow clients hold up no other and come to an end, and what a server refuses is an object."""
 
-from __future__ import annotations
-
 import contextlib
 import functools
 import json

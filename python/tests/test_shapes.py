@@ -1,7 +1,5 @@
 """Tests of exact shapes and of numbers: against other ways to work them out, by fractions."""
 
-from __future__ import annotations
-
 import json
 import random
 import unittest

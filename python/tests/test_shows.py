@@ -1,7 +1,5 @@
 """Tests of a first map in one word: a register is made of files, and a front prints its address."""
 
-from __future__ import annotations
-
 import json
 import signal
 import sqlite3

@@ -1,7 +1,5 @@
 """Ten clients of one front, two of which change layers: each answer is of one version that stood meanwhile."""
 
-from __future__ import annotations
-
 import threading
 import unittest
 import unittest.mock

@@ -1,8 +1,6 @@
 """Tests of the coordinate systems of answers: a store in a projected system, in longitude and
 latitude and in its own."""
 
-from __future__ import annotations
-
 import unittest
 from typing import Any
 

@@ -1,7 +1,5 @@
 """Tiles of polygons, beside what GDAL reads in them and shapes that are rounded corner by corner."""
 
-from __future__ import annotations
-
 from collections.abc import Callable
 from typing import Any
 

@@ -1,7 +1,5 @@
 """Tests of a store in coordinates of the world, by the client, also where pip installs it."""
 
-from __future__ import annotations
-
 import importlib.util
 import os
 import shutil

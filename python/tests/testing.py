@@ -1,7 +1,5 @@
 """A module for the tests of web/: the program that they run, shapes, and a front that is called as a function."""
 
-from __future__ import annotations
-
 import contextlib
 import io
 import json

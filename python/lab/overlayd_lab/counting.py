@@ -1,8 +1,6 @@
 """A module for programs of the lab: their words, a folder for a run, what was tried, and the last
 line, `N passed, M failed`."""
 
-from __future__ import annotations
-
 import argparse
 import os
 import pathlib

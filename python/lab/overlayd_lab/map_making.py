@@ -14,7 +14,7 @@ import argparse
 import pathlib
 import sys
 from collections.abc import Iterator
-from typing import Any, TypeAlias
+from typing import Any
 
 try:
     import numpy as np
@@ -28,8 +28,8 @@ except ImportError as fault:
 WEST, SOUTH, FACTOR = 480_000.0, 5_400_000.0, 1000
 PARCEL = 30_000  # millimetres, about, from side to side
 HEAD = np.dtype([("order", "u1"), ("kind", "<u4"), ("rings", "<u4"), ("points", "<u4")])
-Numbers: TypeAlias = "np.ndarray[Any, Any]"
-Cells: TypeAlias = "list[Numbers]"
+Numbers = np.ndarray[Any, Any]
+Cells = list[Numbers]
 
 
 def jittered(count: int, step: int, draw: np.random.Generator) -> Numbers:

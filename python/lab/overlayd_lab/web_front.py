@@ -1,12 +1,9 @@
-"""A module for trials of the front: a store of real shapes, a running front, Debian's packages."""
-
-from __future__ import annotations
+"""A module for trials of the front: a store of real shapes, and a running front."""
 
 import contextlib
 import json
 import os
 import pathlib
-import shutil
 import subprocess
 import sys
 import urllib.request
@@ -19,10 +16,8 @@ from overlayd_lab import TOP
 
 PROGRAM = TOP / "crates/overlay_live/out/overlay_live"
 DEBIAN_PYTHON = "/usr/bin/python3"
-SCALE = {
-    "title": "Iceland at two scales", "factor": 42262, "factor_y": 100000, "origin": [-19, 65], "unit": "degree",
-    "crs": "OGC:CRS84", "digits": 7,
-}
+SCALE = {"title": "Iceland at two scales", "factor": 42262, "factor_y": 100000, "origin": [-19, 65], "unit": "degree",
+         "crs": "OGC:CRS84", "digits": 7}
 DEFINITIONS = {"both": "iceland_110m & iceland_50m", "one": "iceland_110m ^ iceland_50m"}
 
 
@@ -30,17 +25,6 @@ def asked(address: str) -> Any:
     """The object that a page of the front has."""
     with urllib.request.urlopen(address, timeout=120) as answer:
         return json.load(answer)
-
-
-def need(command: str, *packages: str) -> None:
-    """Installs packages of Debian where a command, or a file, is not there."""
-    if shutil.which(command) or pathlib.Path(command).exists():
-        return
-    environment = {**os.environ, "DEBIAN_FRONTEND": "noninteractive"}
-    words = ["apt-get", "install", "-y", "--no-install-recommends", *packages]
-    done = subprocess.run(words, env=environment, stdout=subprocess.DEVNULL)
-    if done.returncode:
-        sys.exit(f"{' '.join(words)}: status {done.returncode}")
 
 
 def iceland(folder: pathlib.Path, program: str) -> pathlib.Path:

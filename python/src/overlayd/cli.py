@@ -1,7 +1,5 @@
 """The command `overlay`: its subcommands, each of a module of overlayd.commands that is loaded when it is asked for."""
 
-from __future__ import annotations
-
 import importlib
 import os
 import sys

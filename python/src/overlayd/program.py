@@ -21,8 +21,6 @@ another line, or none, is a `ValueError` before anything is sent.
 It needs the standard library alone, and may be handed on as this one file. Rings, coordinates of the world and features
 are those of overlayd.store.world."""
 
-from __future__ import annotations
-
 import contextlib
 import fcntl
 import os
@@ -139,7 +137,7 @@ class Reply(NamedTuple):
         six = [map(int, self._accepted().rest.split())] * 6
         return [((x, y, w), (right_x, right_y, right_w)) for x, y, w, right_x, right_y, right_w in zip(*six)]
 
-    def _accepted(self) -> Reply:
+    def _accepted(self) -> "Reply":
         fault = self.refusal
         if fault:
             raise fault
@@ -530,11 +528,9 @@ class Server:
     timeout: how many seconds a session waits for a line of a reply, for ever where it is None; then it is late.
     A process that does not start raises its own fault as `Refused`."""
 
-    def __init__(
-        self, store: str | os.PathLike[str] | None = None, *, create: bool = False, read_only: bool = False,
-        sessions: int = 1, workers: int | None = None, max_blocks: int | None = None,
-        program: str | os.PathLike[str] = "overlay_live", timeout: float | None = None,
-    ) -> None:
+    def __init__(self, store: str | os.PathLike[str] | None = None, *, create: bool = False, read_only: bool = False,
+                 sessions: int = 1, workers: int | None = None, max_blocks: int | None = None,
+                 program: str | os.PathLike[str] = "overlay_live", timeout: float | None = None) -> None:
         if not 1 <= sessions <= MOST_SESSIONS:
             raise ValueError(f"a process has 1 to {MOST_SESSIONS} sessions")
         words = [os.fspath(program)]
@@ -579,12 +575,11 @@ class Server:
             errors = b""
         return self.process.returncode, errors.decode(errors="replace").strip()
 
-    def __enter__(self) -> Server:
+    def __enter__(self) -> "Server":
         return self
 
-    def __exit__(
-        self, kind: type[BaseException] | None, fault: BaseException | None, trace: TracebackType | None
-    ) -> None:
+    def __exit__(self, kind: type[BaseException] | None, fault: BaseException | None,
+                 trace: TracebackType | None) -> None:
         self.close()
 
 
@@ -599,10 +594,9 @@ def started(words: list[str], sessions: int, timeout: float | None) -> tuple[sub
             given += [line_in, reply_out]
             own.append(Session(open(line_out, "wb", 0), open(reply_in, "rb", 0), timeout))
         # In a session of its own it does not get the interrupt that a terminal sends to all: its end is close.
-        process = subprocess.Popen(
-            words + [f"/dev/fd/{descriptor}" for descriptor in given], stdin=subprocess.DEVNULL,
-            stdout=subprocess.DEVNULL, stderr=subprocess.PIPE, pass_fds=given, start_new_session=True,
-        )
+        process = subprocess.Popen(words + [f"/dev/fd/{descriptor}" for descriptor in given], stdin=subprocess.DEVNULL,
+                                   stdout=subprocess.DEVNULL, stderr=subprocess.PIPE, pass_fds=given,
+                                   start_new_session=True)
     except BaseException:
         for session in own:
             session.close()

@@ -7,8 +7,6 @@
 The function is given all words by their names, and gives the status. A combination of words that is none it refuses by
 `click.UsageError`, which ends the command with status 2."""
 
-from __future__ import annotations
-
 import inspect
 import pathlib
 import re

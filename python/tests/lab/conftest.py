@@ -1,7 +1,5 @@
 """The built programs that tests ask."""
 
-from __future__ import annotations
-
 import pytest
 
 from ..common import Programs

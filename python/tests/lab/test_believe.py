@@ -1,7 +1,5 @@
 """Tests of what the contracts of calls reach: small crates and a small kit, and what has to be found in them."""
 
-from __future__ import annotations
-
 import pathlib
 import re
 

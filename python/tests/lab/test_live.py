@@ -2,8 +2,6 @@
 
 overlayd runs the scripts of examples/ beside it, which have to give the same bytes by both, and reads what it kept."""
 
-from __future__ import annotations
-
 import contextlib
 import os
 import pathlib
@@ -104,10 +102,8 @@ class Place:
     def run(self, *words: str | bytes, script: str | bytes = "", program: str | None = None) -> tuple[int, str, str]:
         """A run from a script to its end: its status, what it wrote, and standard error."""
         data = script.encode() if isinstance(script, str) else script
-        ran = subprocess.run(
-            [program or self.live, *words], input=data, capture_output=True, cwd=self.folder, timeout=SECONDS,
-            check=False,
-        )
+        ran = subprocess.run([program or self.live, *words], input=data, capture_output=True, cwd=self.folder,
+                             timeout=SECONDS, check=False)
         return ran.returncode, ran.stdout.decode(), ran.stderr.decode()
 
     @contextlib.contextmanager
@@ -115,10 +111,8 @@ class Place:
         """A run with one session over pipes."""
         own_in, to = os.pipe()
         back, own_out = os.pipe()
-        process = subprocess.Popen(
-            [program or self.live, *words], stdin=own_in, stdout=own_out, stderr=subprocess.PIPE, cwd=self.folder,
-            user=user,
-        )
+        process = subprocess.Popen([program or self.live, *words], stdin=own_in, stdout=own_out, stderr=subprocess.PIPE,
+                                   cwd=self.folder, user=user)
         os.close(own_in)
         os.close(own_out)
         yield from watched(Running(process, [Session(to, back)]))
@@ -129,10 +123,8 @@ class Place:
         inputs, outputs = [os.pipe() for _ in range(count)], [os.pipe() for _ in range(count)]
         paths = [f"/dev/fd/{fd}" for (own_in, _), (_, own_out) in zip(inputs, outputs) for fd in (own_in, own_out)]
         theirs = [fd for (own_in, _), (_, own_out) in zip(inputs, outputs) for fd in (own_in, own_out)]
-        process = subprocess.Popen(
-            [self.live, *words, *paths], stdin=subprocess.DEVNULL, stderr=subprocess.PIPE, pass_fds=theirs,
-            cwd=self.folder,
-        )
+        process = subprocess.Popen([self.live, *words, *paths], stdin=subprocess.DEVNULL, stderr=subprocess.PIPE,
+                                   pass_fds=theirs, cwd=self.folder)
         for fd in theirs:
             os.close(fd)
         sessions = [Session(to, back) for (_, to), (back, _) in zip(inputs, outputs)]
@@ -447,10 +439,8 @@ def test_a_full_store(place: Place) -> None:
 
 def test_output_that_is_refused(place: Place) -> None:
     with open("/dev/full", "w", encoding="utf-8") as full:
-        ran = subprocess.run(
-            [place.live, "--store", "map", "--create"], input=A.encode(), stdout=full, stderr=subprocess.PIPE,
-            cwd=place.folder, timeout=SECONDS, check=False,
-        )
+        ran = subprocess.run([place.live, "--store", "map", "--create"], input=A.encode(), stdout=full,
+                             stderr=subprocess.PIPE, cwd=place.folder, timeout=SECONDS, check=False)
     assert (ran.returncode, ran.stderr) == (1, b"error 49 write\n")
     # The command was run before its reply failed, and is in the store.
     assert place.run("--store", "map", script="SYNC\n") == (0, "durable 1\n", "")
@@ -601,10 +591,8 @@ def run_without(place: Place, closed: list[int], *words: str) -> tuple[int, str,
     """Runs the program over the file `in` with these of the numbers 0 to 2 closed."""
     how = " ".join(f"{number}>&-" for number in closed)
     with open(place.file("in"), "rb") as lines:
-        ran = subprocess.run(
-            ["/bin/sh", "-c", f"exec \"$0\" \"$@\" {how}", place.live, *words], stdin=lines, capture_output=True,
-            cwd=place.folder, timeout=SECONDS, check=False,
-        )
+        ran = subprocess.run(["/bin/sh", "-c", f"exec \"$0\" \"$@\" {how}", place.live, *words], stdin=lines,
+                             capture_output=True, cwd=place.folder, timeout=SECONDS, check=False)
     return ran.returncode, ran.stdout.decode(), ran.stderr.decode()
 
 

@@ -5,8 +5,6 @@ it is run, as '# overlayd WORD..', and names the script again; without such a li
 run in the order of their names, in one folder, so that one can open a store that another has made. A script without
 expected replies is run by another one's words."""
 
-from __future__ import annotations
-
 import gzip
 import os
 import pathlib
@@ -47,10 +45,8 @@ class Program:
 
     def run(self, *words: str | bytes, script: str = "", stdout: Any = subprocess.PIPE, **how: Any) -> Ran:
         """Its status, and what it wrote on standard output and standard error."""
-        ran = subprocess.run(
-            [self.path, *words], input=script.encode(), stdout=stdout, stderr=subprocess.PIPE,
-            cwd=self.folder, timeout=SECONDS, **how,
-        )
+        ran = subprocess.run([self.path, *words], input=script.encode(), stdout=stdout, stderr=subprocess.PIPE,
+                             cwd=self.folder, timeout=SECONDS, **how)
         return ran.returncode, (ran.stdout or b"").decode(), ran.stderr.decode()
 
     def file(self, name: str) -> pathlib.Path:
@@ -79,10 +75,8 @@ def test_an_example(examples: Program, expected: pathlib.Path) -> None:
     text = expected.read_bytes()
     words = first.removeprefix("# overlayd ").split() if first.startswith("# overlayd ") else []
     with open(script, "rb") as source:
-        ran = subprocess.run(
-            [program.path, *words], stdin=source, stdout=subprocess.PIPE, stderr=subprocess.PIPE,
-            cwd=program.folder, timeout=SECONDS,
-        )
+        ran = subprocess.run([program.path, *words], stdin=source, stdout=subprocess.PIPE, stderr=subprocess.PIPE,
+                             cwd=program.folder, timeout=SECONDS)
     assert (ran.returncode, ran.stdout, ran.stderr) == (0, text, b"")
 
 
@@ -495,9 +489,8 @@ def test_files_of_format_1(program: Program) -> None:
             (name, 0, f"{layers}built {version}\nedges 4\n{edges}same\ndurable {version}\n", "")
         assert (name, newest(program.file(name).read_bytes())) == (name, (2, version))
         assert (name, *program.run("--store", name, script="LAYERS\nVERIFY I 16\n")) == (name, 0, f"{layers}same\n", "")
-    for number, damage in (
-        (1, put(old, BLOCK + 27, b"\3")), (4, put(old, BLOCK + 27, b"\2")), (4, put(old, 5 * BLOCK + 40, b"\2")),
-        (4, put(old, BLOCK + 55, b"\x3e")), (5, put(old, 5 * BLOCK + 12, b"\1")), (6, put(old, 4 * BLOCK, b"9")),
-    ):
+    for number, damage in ((1, put(old, BLOCK + 27, b"\3")), (4, put(old, BLOCK + 27, b"\2")),
+                           (4, put(old, 5 * BLOCK + 40, b"\2")), (4, put(old, BLOCK + 55, b"\x3e")),
+                           (5, put(old, 5 * BLOCK + 12, b"\1")), (6, put(old, 4 * BLOCK, b"9"))):
         program.file("bad").write_bytes(damage)
         assert (number, *program.run("--store", "bad")) == (number, 1, "", f"error 33 damaged {number}\n")

@@ -1,7 +1,5 @@
 """Looks at READMEs of a small tree, right and with one thing wrong at a time."""
 
-from __future__ import annotations
-
 import pathlib
 
 import pytest
@@ -38,9 +36,8 @@ def test_one_thing_is_not_there(tree: pathlib.Path, old: str, new: str, said: st
     assert any(said in line for line in look(Tree(tree))[1])
 
 
-@pytest.mark.parametrize("text, faults", [
-    ("| LOCATE | 4 | 1,009 | 1,030 |\n", 0), ("| LOCATE | 4 | 1,009 | 103 |\n", 1),
-    ("| LOCATE | 4 | 109 | 1,030 |\n", 1)])
+@pytest.mark.parametrize("text, faults", [("| LOCATE | 4 | 1,009 | 1,030 |\n", 0),
+                                          ("| LOCATE | 4 | 1,009 | 103 |\n", 1), ("| LOCATE | 4 | 109 | 1,030 |\n", 1)])
 def test_numbers_of_the_page(tree: pathlib.Path, text: str, faults: int) -> None:
     (tree / "docs/BELIEVE.md").write_text(NUMBERS)
     (tree / "README.md").write_text(text)

@@ -1,7 +1,5 @@
 """Whether what judges is right: the model by the examples, the judge by outputs, the reader by docs/FORMAT.md."""
 
-from __future__ import annotations
-
 import pathlib
 import re
 import struct
@@ -81,11 +79,9 @@ CHANGED = [
 ]
 # Each: scripts whose sessions were cut off, what they wrote, and how many replies are wrong (None: the output as a
 # whole).
-CUT_OFF = [
-    ([b"DROP A\n", b"PUT A " + SQUARE, b"PUT B " + OTHER], "# script 1\n# script 2\n# script 3\nok 2\n", 0),
-    ([b"PUT A " + SQUARE, b"DROP A\n", b"PUT B " + OTHER], "# script 1\n# script 2\n# script 3\nok 3\n", 0),
-    ([b"DROP A\n", b"PUT B " + OTHER], "# script 1\n# script 2\nok 2\n", None),
-]
+CUT_OFF = [([b"DROP A\n", b"PUT A " + SQUARE, b"PUT B " + OTHER], "# script 1\n# script 2\n# script 3\nok 2\n", 0),
+           ([b"PUT A " + SQUARE, b"DROP A\n", b"PUT B " + OTHER], "# script 1\n# script 2\n# script 3\nok 3\n", 0),
+           ([b"DROP A\n", b"PUT B " + OTHER], "# script 1\n# script 2\nok 2\n", None)]
 
 
 def found_wrong(scripts: list[bytes], output: str, is_cut: bool = False) -> int | None:

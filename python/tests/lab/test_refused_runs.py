@@ -1,7 +1,5 @@
 """What growths.py and faults.py take as right of runs in which something is refused, and what they refuse by."""
 
-from __future__ import annotations
-
 import os
 import pathlib
 import subprocess
@@ -38,10 +36,8 @@ CASES: dict[Allows, list[tuple[Any, int, str | None, bool]]] = {
         ({1: OUT}, 1, OUT, False), ({3: CLOSING, 4: CLOSING}, 1, OUT, False),
         ({3: CLOSING, 4: CLOSING, EARLY: True}, 1, OUT, False),
     ],
-    many_growths: [
-        ({1: OUT, 2: OUT, 4: OUT}, 2, "", True), ({1: OUT, 2: OUT, 4: OUT}, 0, "", False), ({2: DEVICE}, 2, "", False),
-        ({3: CLOSING, 4: CLOSING, EARLY: True}, 2, OUT, False),
-    ],
+    many_growths: [({1: OUT, 2: OUT, 4: OUT}, 2, "", True), ({1: OUT, 2: OUT, 4: OUT}, 0, "", False),
+                   ({2: DEVICE}, 2, "", False), ({3: CLOSING, 4: CLOSING, EARLY: True}, 2, OUT, False)],
     device: [
         ({}, 0, "", True), ({}, 1, "", True), ({4: DEVICE}, 1, "", True), ({2: DEVICE, 4: DEVICE}, 1, DEVICE, True),
         ({4: DEVICE}, 1, None, False), ({4: DEVICE}, 0, "", False), ({2: DEVICE}, 1, "", False),

@@ -1,13 +1,10 @@
-"""What trials and measures do by themselves, without a program: what they draw, judge, read of traces, and print."""
-
-from __future__ import annotations
+"""What trials do by themselves, without a program: what they draw and judge, and what of their programs is read."""
 
 from typing import Any
 
 import pytest
 
 from overlayd_lab import read_programs, unproved
-from overlayd_lab.measures import peers
 from overlayd_lab.reference import judging, model, read_store
 from overlayd_lab.trials import damages, live_stress, old_files
 
@@ -99,15 +96,3 @@ def test_programs_stand_side_by_side() -> None:
     assert all(unproved.crates_of(folder) for folder in programs)
     assert all(file.exists() for folder in programs for file in unproved.files_of(folder).values())
     assert len({"_".join(folder.parts[-2:]) for folder in programs}) == len(programs) > 0
-
-
-# ---- measures
-
-
-@pytest.mark.parametrize("family", peers.FAMILIES)
-def test_layers_beside_peers(family: str) -> None:
-    """Two, of about as many edges as were asked for, from one end of the plane to the other."""
-    layers = peers.over_all_columns(peers.FAMILIES[family](64))
-    edges = [sum(len(ring) - 1 for ring in layer) for layer in layers]
-    assert len(edges) == 2 and max(edges) == 64 and max(x for layer in layers for r in layer for x, _ in r) > 990_000
-    assert peers.text_of([[(0, 0), (1, 2)]]) == "MULTIPOLYGON (((0 0, 1 2)))"

@@ -1,7 +1,5 @@
 """Tries edits that stand here on a source that stands here, by a prover that says what stands here, and reads edits."""
 
-from __future__ import annotations
-
 import dataclasses
 import os
 import pathlib

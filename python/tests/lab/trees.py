@@ -1,7 +1,5 @@
 """Small trees of sources for tests of what reads sources: in fixtures/NAME.tree each file stands after `==== PATH`."""
 
-from __future__ import annotations
-
 import pathlib
 import re
 

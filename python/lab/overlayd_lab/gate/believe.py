@@ -13,8 +13,6 @@ the payloads of its cases, and the fields that a contract or a definition names;
 follow link words. It ends where a definition that is reached names one of `proofs/`, or one that is not there. Lemmas
 are not counted; what is reached of the kit's own definitions is, in a column of its own."""
 
-from __future__ import annotations
-
 import argparse
 import pathlib
 import subprocess

@@ -32,8 +32,6 @@ that was written for the text as it is may fall by its shape alone, and its cont
 clause at which its wrong body falls into what that does instead, which contradicts the clause: the wrong body is proved
 to be wrong."""
 
-from __future__ import annotations
-
 import dataclasses
 import hashlib
 import json

@@ -6,8 +6,6 @@ trait by both names in one, `point::PtOrd::cmp`; one of a type by the module whe
 stands; but one of an `impl` for some types alone by the module where that stands, and with what the type is given
 there: `fault_disk::PlannedDisk+D+FaultPlan::new`."""
 
-from __future__ import annotations
-
 import collections
 import dataclasses
 import pathlib

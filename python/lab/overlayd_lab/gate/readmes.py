@@ -8,8 +8,6 @@ crate, or a field of a record that its definitions have. Each name after **Wrong
 docs/PROOFS.md, after **Refused**: of any crate). Every other word in backquotes stands somewhere in the sources.
 README.md has the numbers of docs/BELIEVE.md."""
 
-from __future__ import annotations
-
 import pathlib
 import re
 import sys

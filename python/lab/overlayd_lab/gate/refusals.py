@@ -9,8 +9,6 @@ written proof names what the edit has taken away (`a name that is gone`), that a
 may not end; but where the name of an edit says that its operation may go wrong, that is its meaning (`edits.py`).
 """
 
-from __future__ import annotations
-
 import dataclasses
 import pathlib
 import re

@@ -13,8 +13,6 @@ those without a sentence: of a type as `Type::name`, of a trait's `impl` as `Typ
 those of such an `impl`, are bold. Crates of tests are left out.
 """
 
-from __future__ import annotations
-
 import argparse
 import pathlib
 import re

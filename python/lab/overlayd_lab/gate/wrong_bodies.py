@@ -24,8 +24,6 @@ a wrong body that was asked for falls without a refutation at a limit of the sea
 control too. A run of all wrong bodies of a crate's file that ends well writes down there what was tried, by a digest.
 """
 
-from __future__ import annotations
-
 import argparse
 import collections
 import concurrent.futures

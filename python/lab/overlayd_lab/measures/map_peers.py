@@ -1,4 +1,5 @@
-"""How long do the overlaps of two maps take, and what are they: `overlay pairs` beside shapely, geopandas and PostGIS?
+"""How long do the overlaps of two maps take, and what are they: `overlay pairs` beside shapely, geopandas, PostGIS and
+QGIS, and the plugin in QGIS?
 
 /usr/bin/python3 -m overlayd_lab.measures.map_peers PROGRAM [--parcels N] [--zones N] [--lattice] [--folder
 FOLDER] [--only PEER]..
@@ -6,11 +7,9 @@ FOLDER] [--only PEER]..
 PROGRAM is the built overlay_features. The maps are those of ../map_making.py. Each peer reads both files and writes a
 table of the pairs whose common part has an area; of each are reported processor seconds and memory of the whole run,
 how many pairs it has, and how these differ from ours. Needs python3-gdal, -numpy, -shapely, -geopandas, -rtree and,
-for PostGIS, postgresql-15-postgis-3; a peer that is not there is left out, and reported. All is done once, on one
-processor at a time.
+for PostGIS, postgresql-15-postgis-3, for QGIS qgis and python3-qgis; a peer that is not there is left out, and
+reported. All is done once, on one processor at a time.
 """
-
-from __future__ import annotations
 
 import argparse
 import contextlib
@@ -27,6 +26,7 @@ from typing import Any, NamedTuple
 
 from overlayd_lab import LAB, TOP
 from overlayd_lab.counting import Words
+from overlayd_lab.measures.qgis_peers import Process
 from overlayd_lab.processor_time import processor
 
 PYTHON = "/usr/bin/python3"
@@ -72,13 +72,33 @@ READERS: dict[str, Callable[[Any, Any], Iterator[Any]]] = {"shapely": by_shapely
                                                            "geopandas": by_geopandas}
 
 
-def peer(name: str, folder: pathlib.Path, table: pathlib.Path) -> None:
-    """Runs one of the peers of Python, in a process of its own."""
-    import geopandas
+IN_QGIS = {"QGIS": "native:intersection", "the plugin": "exactoverlay:pieces"}
+PEERS = [*READERS, "PostGIS", *IN_QGIS]
 
-    parcels, zones = (geopandas.read_file(folder / f"{kind}.gpkg") for kind in ("parcels", "zones"))
+
+def by_qgis(program: str, folder: pathlib.Path, algorithm: str) -> Iterator[tuple[str, str, float]]:
+    """An intersection by qgis_process, and the areas of what it wrote."""
+    from osgeo import ogr
+
+    with tempfile.TemporaryDirectory() as place:
+        made = pathlib.Path(place, "made.gpkg")
+        Process(pathlib.Path(place, "qgis"), program).run(
+            algorithm, INPUT=folder / "parcels.gpkg", OVERLAY=folder / "zones.gpkg", HOW=0, OUTPUT=made)
+        store = ogr.Open(str(made))
+        for one in store.GetLayer():
+            yield one["parcel"], one["zone"], one.geometry().Area()
+
+
+def peer(name: str, program: str, folder: pathlib.Path, table: pathlib.Path) -> None:
+    """Runs one of the peers of Python or QGIS, in a process of its own."""
+    if name in IN_QGIS:
+        rows = by_qgis(program, folder, IN_QGIS[name])
+    else:
+        import geopandas
+
+        rows = READERS[name](*(geopandas.read_file(folder / f"{kind}.gpkg") for kind in ("parcels", "zones")))
     with table.open("w", newline="") as file:
-        csv.writer(file).writerows(row for row in READERS[name](parcels, zones) if row[2] > 0)
+        csv.writer(file).writerows(row for row in rows if row[2] > 0)
 
 
 class Run(NamedTuple):
@@ -90,13 +110,14 @@ class Run(NamedTuple):
     pairs: Table
 
 
-def timed(words: list[str], table: pathlib.Path) -> Run:
+def timed(words: list[str], table: pathlib.Path | None) -> Run:
     before, begin = processor(), time.monotonic()
-    done = subprocess.run(["/usr/bin/time", "-f", "%M", *words], capture_output=True, text=True, check=False)
+    kept = {name: value for name, value in os.environ.items() if name != "PYTHONDONTWRITEBYTECODE"}
+    done = subprocess.run(["/usr/bin/time", "-f", "%M", *words], capture_output=True, text=True, check=False, env=kept)
     seconds, clock = processor() - before, time.monotonic() - begin
     if done.returncode:
         raise RuntimeError(done.stderr.strip().splitlines()[-3])
-    return Run(seconds, clock, int(done.stderr.split()[-1]) // 1024, read_table(table))
+    return Run(seconds, clock, int(done.stderr.split()[-1]) // 1024, {} if table is None else read_table(table))
 
 
 def read_table(path: pathlib.Path) -> Table:
@@ -110,6 +131,7 @@ def ours(program: str, folder: pathlib.Path, table: pathlib.Path) -> Run:
     words = [PYTHON, str(TOP / "overlay"), "pairs", str(folder / "parcels.gpkg"),
              str(folder / "zones.gpkg"), "--factor", "1000", "--a-id", "parcel", "--b-id", "zone", "--jobs", "1",
              "--out", str(table), "--program", program]
+    timed([PYTHON, str(TOP / "overlay"), "pairs", "--help"], None)  # compiles its modules, as an installation does
     return timed(words, table)
 
 
@@ -194,11 +216,11 @@ def main() -> int:
     parser.add_argument("--zones", type=int, default=700)
     parser.add_argument("--lattice", action="store_true", help="parcels whose corners lie on the borders of zones")
     parser.add_argument("--folder", type=pathlib.Path, help="keeps maps and tables there")
-    parser.add_argument("--only", action="append", choices=[*READERS, "PostGIS"])
+    parser.add_argument("--only", action="append", choices=PEERS)
     parser.add_argument("--peer", nargs=2, help=argparse.SUPPRESS)
     words = parser.parse_args()
     if words.peer:
-        peer(words.peer[0], words.folder, pathlib.Path(words.peer[1]))
+        peer(words.peer[0], words.program, words.folder, pathlib.Path(words.peer[1]))
         return 0
     with tempfile.TemporaryDirectory() as made:
         folder = words.folder or pathlib.Path(made)
@@ -209,7 +231,7 @@ def main() -> int:
                  "areas apart, m2"]
         print(f"{boxes:,} pairs of boxes\n\n| {' | '.join(heads)} |\n|{'---|' * len(heads)}")
         print(line("overlay pairs", base, base, boxes), flush=True)
-        for name in words.only or [*READERS, "PostGIS"]:
+        for name in words.only or PEERS:
             table = folder / "peer.csv"
             table.unlink(missing_ok=True)
             try:

@@ -3,7 +3,8 @@
     /usr/bin/python3 -m overlayd_lab.measures.register_size FEATURES PARCELS ZONES [--peer] [--maps FOLDER]
 
 Maps are made by ../map_making.py, or stand in --maps. For each step it prints seconds of processors of all processes,
-and the most memory that one of them had. An edit moves one corner of each of some parcels in one transaction; told are
+and the most memory that one of them had; of one that fills tables also those of its longest transaction that writes,
+for which whoever edits has to wait. An edit moves one corner of each of some parcels in one transaction; told are
 the least and the mean of several, and the 95th of a hundred, in milliseconds of processors from the change to the rows:
 of the refresh, and of the program that it asks. --peer: the pairs by ST_Intersection in row triggers of PostGIS, in a
 server of its own, the processor time of its backend. FEATURES is the built overlay_features.
@@ -11,6 +12,8 @@ server of its own, the processor time of its backend. FEATURES is the built over
 
 from __future__ import annotations
 
+import contextlib
+import functools
 import importlib
 import os
 import pathlib
@@ -22,15 +25,19 @@ import subprocess
 import sys
 import tempfile
 import time
-from collections.abc import Callable
+from collections.abc import Callable, Iterator
 
 from osgeo import gdal
 from overlayd.kernel import Ask
 from overlayd.register.answers import Program
 from overlayd.register.beginning import engine_of, opened
+from overlayd.register.filling import keep
 from overlayd.register.geojson import geometry_of
 from overlayd.register.lasting import lasting
+from overlayd.register.model import Kept, Kind
+from overlayd.register.package import GeoPackage
 from overlayd.register.refreshing import refresh
+from overlayd.register.registers import Register
 from overlayd.register.tables import Table
 from overlayd_lab import LAB, TOP
 from overlayd_lab.counting import Words
@@ -57,6 +64,33 @@ def measured(what: str, *words: object) -> None:
     seconds = used.ru_utime + used.ru_stime - before.ru_utime - before.ru_stime
     print(f"{what}: {seconds:.1f} s, {time.monotonic() - began:.0f} s by the clock, most memory so far"
           f" {used.ru_maxrss / 1024:.0f} MB; {done.stdout.strip()}", flush=True)
+
+
+class Timed(GeoPackage):
+    """A register in a file, and what its longest transaction that writes has taken."""
+
+    longest = 0.0
+
+    @contextlib.contextmanager
+    def writing(self) -> Iterator[None]:
+        with super().writing():
+            began = time.process_time()
+            yield
+            Timed.longest = max(Timed.longest, time.process_time() - began)
+
+
+def filled(what: str, file: str, work: Callable[[Register], object]) -> None:
+    """Fills tables of a register, and tells what it took."""
+    both = (resource.RUSAGE_SELF, resource.RUSAGE_CHILDREN)
+    Timed.longest, before = 0.0, [resource.getrusage(one) for one in both]
+    register = Register(Timed(file))
+    done = work(register)
+    register.engine.close()
+    after = [resource.getrusage(one) for one in both]
+    seconds = [own.ru_utime + own.ru_stime - was.ru_utime - was.ru_stime for own, was in zip(after, before)]
+    print(f"{what}: {seconds[0]:.1f} s and {seconds[1]:.1f} of the program, {Timed.longest:.2f} in a transaction; "
+          f"{done} rows; most memory so far {after[0].ru_maxrss / 1024:.0f} MB; the file: "
+          f"{os.stat(file).st_size / 1e6:.1f} MB", flush=True)
 
 
 def nanoseconds(process: int) -> int:
@@ -102,14 +136,12 @@ def register(folder: pathlib.Path, features: str) -> None:
         gdal.VectorTranslate(file, str(folder / f"{name}.gpkg"), format="GPKG", layerName=name,
                              accessMode="append" if pathlib.Path(file).exists() else None)
     print(f"layers: {os.stat(file).st_size / 1e6:.1f} MB", flush=True)
-    own, program = (PYTHON, OVERLAY, "register"), ("--program", features)
-    measured("adopt", *own, "adopt", file, "parcels", "zones", "--grid", "0.001")
-    measured("refresh", *own, "refresh", file, *program)
+    measured("adopt", PYTHON, OVERLAY, "register", "adopt", file, "parcels", "zones", "--grid", "0.001")
     asked = Program(Ask(features), opened(file).state().factor)
-    for kind, name, *of in (("pairs", "pz", "parcels", "zones"), ("check", "shared", "parcels"),
-                            ("derive", "gaps", "zones - parcels")):
-        measured(f"keep {kind}", *own, "keep", kind, file, name, *of, *program)
-        print(f"the file: {os.stat(file).st_size / 1e6:.1f} MB", flush=True)
+    filled("refresh", file, functools.partial(refresh, program=asked))
+    for kept in (Kept("pz", Kind.PAIRS, "parcels", "zones"), Kept("shared", Kind.CHECK, "parcels", "parcels"),
+                 Kept("gaps", Kind.DERIVE, expression="zones - parcels")):
+        filled(f"keep {kept.kind.value}", file, functools.partial(keep, kept=kept, program=asked))
         one, line, writer = opened(file), lasting(asked), engine_of(file, writes_layers=True)
         one.engine.hold()
         table = Table(writer, one.layer("parcels"))
@@ -126,7 +158,7 @@ def register(folder: pathlib.Path, features: str) -> None:
             return (mine + theirs) / 1e6
 
         took(1)
-        told(f"with tables up to {kind}", took)
+        told(f"with tables up to {kept.kind.value}", took)
         one.engine.close()
     size = os.stat(file).st_size + sum(path.stat().st_size for path in folder.glob("land.gpkg-wal"))
     print(f"after the edits: {size / 1e6:.1f} MB; this process: "

@@ -8,8 +8,6 @@ some version of it that is no older than what the session saw, has all its own a
 sent. EDGES and VERIFY may be pending only where no session has read that the layer was built, with nothing changed
 since. Refusals of UNJUDGED are counted apart."""
 
-from __future__ import annotations
-
 import bisect
 import collections
 import itertools

@@ -8,8 +8,6 @@ refused by 46, and EDGES and VERIFY never by 21.
 All is by counting over all segments, in whole numbers and fractions. What was once worked out for a layer's meaning is
 kept under a key."""
 
-from __future__ import annotations
-
 import fractions
 import functools
 import math
@@ -19,10 +17,8 @@ import sys
 from collections.abc import Callable, Iterable, Sequence, Set
 from typing import Any, NamedTuple
 
-from overlayd.grid.limits import (
-    BATCH_MAX, COLUMNS, COLUMN_WIDTH, COORDINATE_MAX, GRID_MAX, LAYERS_MAX, LINE_MAX, NAME_MAX, PIECES_MAX, STEPS_MAX,
-    STEP_MAX, TOKENS_MAX, WEIGHT_MAX,
-)
+from overlayd.grid.limits import (BATCH_MAX, COLUMNS, COLUMN_WIDTH, COORDINATE_MAX, GRID_MAX, LAYERS_MAX, LINE_MAX,
+                                  NAME_MAX, PIECES_MAX, STEPS_MAX, STEP_MAX, TOKENS_MAX, WEIGHT_MAX)
 from overlayd.program import lines_after
 from overlayd_lab.counting import Words
 
@@ -305,10 +301,8 @@ def leaves(tree: Tree) -> tuple[str, ...]:
 # ---- lines
 
 NUMBER = re.compile(rb"[+-]?[0-9]{1,18}")
-QUESTIONS = {
-    b"LOCATE": (2, 3), b"EDGES": (1, 1), b"GRID": (5, 5), b"LAYERS": None, b"WAIT": (0, 0), b"SYNC": None,
-    b"VERIFY": (1, 1),
-}
+QUESTIONS = {b"LOCATE": (2, 3), b"EDGES": (1, 1), b"GRID": (5, 5), b"LAYERS": None, b"WAIT": (0, 0), b"SYNC": None,
+             b"VERIFY": (1, 1)}
 
 
 def lines_of(script: bytes) -> list[bytes]:
@@ -458,7 +452,7 @@ class Layers:
                     return 13
         return 15 if not stands and len(self.names) == LAYERS_MAX else None
 
-    def after(self, command: Any) -> Layers:
+    def after(self, command: Any) -> "Layers":
         """The layers after a command that isn't refused."""
         contents = dict(self.contents)
         if isinstance(command, Drop):

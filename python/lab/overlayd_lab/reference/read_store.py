@@ -6,8 +6,6 @@ Prints what the file stands for: `version N`; a line `layer NAME TEXT` or `layer
 layer in order; a line `tile NAME COLUMN PIECES` or `tile NAME COLUMN oversize` for each finished tile, by layer and
 column. Of a file with a fault it prints the first one, `32` or `33 CODE`, and ends with status 1."""
 
-from __future__ import annotations
-
 import fractions
 import functools
 import pathlib

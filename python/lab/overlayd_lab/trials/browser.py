@@ -7,8 +7,6 @@ point by LOCATE. It needs python3-pil, python3-selenium, chromium-driver and lib
 
 Status 0 and a last line `N passed, 0 failed`, or what fell."""
 
-from __future__ import annotations
-
 import argparse
 import io
 import json
@@ -249,10 +247,8 @@ def refused_thrice(browser: Browser, layer: str, tries: Tries) -> None:
 def looks(browser: Browser, address: str, tries: Tries) -> None:
     browser.open(address)
     browser.until(READY)
-    tries.that(
-        "version 1" in told(browser, "status") and "durable 1" in told(browser, "status"),
-        "it tells the version and what is durable",
-    )
+    tries.that("version 1" in told(browser, "status") and "durable 1" in told(browser, "status"),
+               "it tells the version and what is durable")
     compared(browser, address, tries, "drawn")
 
     browser.click(460, 400)
@@ -275,14 +271,11 @@ def changes(browser: Browser, address: str, pictures: pathlib.Path, tries: Tries
     cells = browser.value(
         "[document.querySelectorAll('#columns i.built').length, document.querySelectorAll('#columns i').length]"
     )
-    tries.that(
-        cells[0] == cells[1] == overlay_columns(address),
-        f"{told(browser, 'told-define')}; {cells[0]} of {cells[1]} cells are green",
-    )
+    tries.that(cells[0] == cells[1] == overlay_columns(address),
+               f"{told(browser, 'told-define')}; {cells[0]} of {cells[1]} cells are green")
     browser.until("document.getElementById('columns').hidden")
-    tries.that(
-        "version 2" in told(browser, "status") and "durable 2" in told(browser, "status"), "the new version is durable"
-    )
+    tries.that("version 2" in told(browser, "status") and "durable 2" in told(browser, "status"),
+               "the new version is durable")
     compared(browser, address, tries, "with a layer defined")
     browser.click(520, 300)
     browser.until("document.querySelectorAll('#places tr').length === 5")
@@ -307,9 +300,8 @@ def later_changes(browser: Browser, address: str, tries: Tries) -> None:
     )
     tries.that("version 3" in told(browser, "status"), f"dropped: {told(browser, 'told-layers')}")
     body = json.dumps({"definition": "iceland_110m | iceland_50m"}).encode()
-    other = urllib.request.Request(
-        f"{address}collections/either", body, {"Content-Type": "application/json"}, method="PUT"
-    )
+    other = urllib.request.Request(f"{address}collections/either", body, {"Content-Type": "application/json"},
+                                   method="PUT")
     urllib.request.urlopen(other).close()
     browser.until("overlayPage.plot.drawn.has('either')")
     tries.that("version 4" in told(browser, "status"), "what another client defines is drawn")
@@ -337,9 +329,8 @@ def plane(folder: pathlib.Path, program: str, name: str, shape: Callable[[int, i
     with overlay_client.Server(store, create=True, program=program) as server, server.session() as one:
         places = (("A", -150_000, 0), ("B", 170_000, 60_000), ("C", 0, -190_000))
         one.batch([one.put_line(layer, shape(x, y)) for layer, x, y in places])
-    store.with_suffix(".scale.json").write_text(
-        json.dumps({"title": f"Three {name}", "factor": 100, "unit": "m"}), encoding="utf-8"
-    )
+    store.with_suffix(".scale.json").write_text(json.dumps({"title": f"Three {name}", "factor": 100, "unit": "m"}),
+                                                encoding="utf-8")
     return store
 
 
@@ -379,10 +370,8 @@ def read_only(browser: Browser, address: str, tries: Tries) -> None:
     shown = browser.value(
         "[document.getElementById('defining').hidden, document.querySelectorAll('#layers button[title^=drop]').length]"
     )
-    tries.that(
-        shown == [True, 0] and "read only" in told(browser, "status"),
-        f"a front that reads: {told(browser, 'status')!r}",
-    )
+    tries.that(shown == [True, 0] and "read only" in told(browser, "status"),
+               f"a front that reads: {told(browser, 'status')!r}")
     tries.that("version 4" in told(browser, "status"), "it tells the file's version")
 
 

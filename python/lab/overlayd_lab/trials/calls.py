@@ -8,8 +8,6 @@ answers as with memory, or by 40 (over a disk also 30) with all as before, and t
 lists, books, sessions and servers are judged stands in trials/calls; the judges are shown wrong ones at last. The
 server's counts differ from run to run. Status 1: a run is wrong."""
 
-from __future__ import annotations
-
 import pathlib
 import subprocess
 import sys

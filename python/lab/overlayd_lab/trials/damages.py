@@ -8,8 +8,6 @@ what the disk may hold is recovered as the old or the new content. Then files ar
 each byte and bit of them is changed: answers are those of reference/read_store.py, and VERIFY of each tile
 returns. At last sessions whose reader or writer fails. Status 1: anything is wrong."""
 
-from __future__ import annotations
-
 import collections
 import pathlib
 import subprocess
@@ -23,10 +21,8 @@ from overlayd_lab.reference import model, read_store
 from overlayd_lab.trials import old_files
 
 HERE = pathlib.Path(__file__).resolve().parent
-STORES = {
-    "one": "the store of one layer", "two": "the store of two", "tiled": "the tiled square's store",
-    "crossed": "the store of a tile with crossings",
-}
+STORES = {"one": "the store of one layer", "two": "the store of two", "tiled": "the tiled square's store",
+          "crossed": "the store of a tile with crossings"}
 # The files that come of one of format 1, each with the format of its root and how many versions it went on.
 LEFT = {"opened": (1, 0), "same": (2, 0), "more": (2, 1)}
 BLOCK = 4096
@@ -114,9 +110,8 @@ def offsets_of(data: bytes) -> list[int]:
     return sorted({at + i for at, size in places for i in range(size)})
 
 
-def each_byte(
-    program: pathlib.Path, folder: pathlib.Path, name: str, data: bytes, changed: Callable[[int], Sequence[int]],
-) -> int:
+def each_byte(program: pathlib.Path, folder: pathlib.Path, name: str, data: bytes,
+              changed: Callable[[int], Sequence[int]]) -> int:
     """Each byte of both slots, the catalog and the records changed."""
     offsets = offsets_of(data)
     cases = [(len(data), [(at, byte)]) for at in offsets for byte in changed(data[at]) if byte != data[at]]

@@ -1,7 +1,5 @@
 """Draws the lines of sessions: commands of all kinds, good and bad, over names that the sessions share."""
 
-from __future__ import annotations
-
 import random
 from collections.abc import Callable, Sequence
 

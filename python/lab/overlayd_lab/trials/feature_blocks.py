@@ -1,7 +1,5 @@
 """Blocks of features and jobs, and replies to them, in the bytes of docs/FORMAT.md, without numpy."""
 
-from __future__ import annotations
-
 import struct
 import subprocess
 from collections.abc import Iterable, Sequence

@@ -8,8 +8,6 @@ all numbers but the counts of pieces and passes and the bound are the same. With
 the same, too: simple rings with the inside on their left, holes within their outer ring, the judge's area, and as
 doubles the ones nearest to the fractions. The last line is 'N passed, M failed'."""
 
-from __future__ import annotations
-
 import argparse
 import random
 import sys

@@ -1,7 +1,5 @@
 """What features have in common, by slabs of fractions, even-odd: the judge of the program of features."""
 
-from __future__ import annotations
-
 from collections import defaultdict
 from fractions import Fraction
 from typing import NamedTuple

@@ -6,8 +6,6 @@ A few squares by pairs, cells and points, whose rows are known by hand, as lines
 with its number and the job at fault, between others that are answered; words that the program does not know. The last
 line is 'N passed, M failed'."""
 
-from __future__ import annotations
-
 import argparse
 import subprocess
 import sys

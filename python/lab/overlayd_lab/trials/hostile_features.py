@@ -1,7 +1,5 @@
 """Features that are hard for overlays, drawn from a seed: shared edges, doubled rings, spikes, slivers."""
 
-from __future__ import annotations
-
 import math
 import random
 

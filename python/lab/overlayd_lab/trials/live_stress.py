@@ -7,8 +7,6 @@ layers. Each reply is judged as it comes. Two of three runs end by kill -9, the 
 then holds a version no older than each `durable N` that was read, and the next run says the same; at the end its tiles
 are compared with the model's. Status 1, and the store is kept: anything is wrong."""
 
-from __future__ import annotations
-
 import argparse
 import bisect
 import collections
@@ -401,9 +399,8 @@ def without_names(words: list[str], judge: Judge) -> Run:
     lines, replies = [os.pipe() for _ in range(SESSIONS)], [os.pipe() for _ in range(SESSIONS)]
     theirs = [file for (line_in, _), (_, reply_out) in zip(lines, replies) for file in (line_in, reply_out)]
     paths = [f"/dev/fd/{file}" for file in theirs]
-    process = subprocess.Popen(
-        words + paths, stdin=subprocess.DEVNULL, stdout=subprocess.DEVNULL, stderr=subprocess.PIPE, pass_fds=theirs
-    )
+    process = subprocess.Popen(words + paths, stdin=subprocess.DEVNULL, stdout=subprocess.DEVNULL,
+                               stderr=subprocess.PIPE, pass_fds=theirs)
     for file in theirs:
         os.close(file)
     return Run(process, [Channel(line_out, reply_in) for (_, line_out), (reply_in, _) in zip(lines, replies)], judge)
@@ -419,9 +416,8 @@ def with_names(words: list[str], judge: Judge, folder: pathlib.Path) -> Run:
         Channel(os.open(lines, os.O_RDWR | os.O_NONBLOCK), os.open(replies, os.O_RDONLY | os.O_NONBLOCK))
         for lines, replies in zip(paths[::2], paths[1::2])
     ]
-    process = subprocess.Popen(
-        words + list(map(str, paths)), stdin=subprocess.DEVNULL, stdout=subprocess.DEVNULL, stderr=subprocess.PIPE
-    )
+    process = subprocess.Popen(words + list(map(str, paths)), stdin=subprocess.DEVNULL, stdout=subprocess.DEVNULL,
+                               stderr=subprocess.PIPE)
     return Run(process, channels, judge)
 
 

@@ -1,7 +1,5 @@
 """A module of growths.py and faults.py: many runs in which something is refused, and the table that counts them."""
 
-from __future__ import annotations
-
 import concurrent.futures
 import os
 

@@ -1,7 +1,5 @@
 """A module of growths.py and faults.py: runs of a program in which something is refused, and what each left."""
 
-from __future__ import annotations
-
 import argparse
 import os
 import pathlib
@@ -21,11 +19,9 @@ FAULT_LINES = re.compile(r"(error [^\n]+\n)(?:([^\n:]+)(?:: [^\n]+)?\n)?")
 
 SQUARE = "POLYGON ((0 0, 10 0, 10 10, 0 10, 0 0))"
 OTHER = "POLYGON ((5 5, 15 5, 15 15, 5 15, 5 5))"
-WORDS = [
-    f"PUT A {SQUARE}", f"PUT B {OTHER}", "DEFINE I = A & B", "LOCATE I 7 7", "LAYERS", "WAIT I", "EDGES I 16",
-    "VERIFY I 16", "GRID I 4 4 2 4 4", "HELLO", "LOCATE Z 1 1", "PUT A POLYGON ((0 0, 9 0, 9 9, 0 9, 0 0))", "SYNC",
-    "DEFINE J = I ^ B", "WAIT J", "DROP J", "SYNC", "LOCATE A 9 1",
-]
+WORDS = [f"PUT A {SQUARE}", f"PUT B {OTHER}", "DEFINE I = A & B", "LOCATE I 7 7", "LAYERS", "WAIT I", "EDGES I 16",
+         "VERIFY I 16", "GRID I 4 4 2 4 4", "HELLO", "LOCATE Z 1 1", "PUT A POLYGON ((0 0, 9 0, 9 9, 0 9, 0 0))",
+         "SYNC", "DEFINE J = I ^ B", "WAIT J", "DROP J", "SYNC", "LOCATE A 9 1"]
 FIRST = [f"PUT A {SQUARE}", "DEFINE I = A", "WAIT I", "EDGES I 16", "SYNC", "GRID A 0 0 5 3 3", "LAYERS"]
 SECOND = [f"PUT B {OTHER}", "SYNC", "DEFINE J = A ^ B", "WAIT J", "VERIFY J 16", "DROP I", "SYNC"]
 BEFORE = [f"PUT A {SQUARE}", f"PUT B {OTHER}", "DEFINE I = A & B"]

@@ -1,7 +1,5 @@
 """A module of growths.py and faults.py: judges what a run in which something is refused says, and what it leaves."""
 
-from __future__ import annotations
-
 import re
 import subprocess
 from collections.abc import Callable

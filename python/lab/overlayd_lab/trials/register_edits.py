@@ -3,21 +3,24 @@
     /usr/bin/python3 -m overlayd_lab.trials.register_edits FEATURES [--edits N] [--stops N] [--kills N] [--parcels N]
         [--database PG:WORDS] [--seed N]
 
-Random edits by SQL, OGR, fiona and the front, some of several features, beside `watch`, the front's own watch, and
-`refresh`; of these one after the other is killed (-9) after some edits. Each edit that is acknowledged is kept as the
-digest that its features have then. At each stop all layers are compared with these, and `audit` works all tables and
-violations out anew. FEATURES is the built overlay_features. --database: a database of PostGIS, whose layers parcels and
+Random edits by SQL, OGR, ogr2ogr, the front, and where they are installed fiona and QGIS, some of several features,
+beside `watch`, the front's own watch, and `refresh`; of these one after the other is killed (-9) after some edits, the
+front amid a change, and of a database a process of the server, which ends all connections. Each edit that is
+acknowledged is kept as the digest that its features have then; of a change amid which the front was killed all is there
+or nothing. At each stop all layers are compared with these, and `audit` works all tables and violations out anew.
+FEATURES is the built overlay_features. --database: a database of PostGIS on this machine, whose layers parcels and
 zones are made anew, by GDAL. It ends with status 1 where something is lost or wrong.
 """
 
 from __future__ import annotations
 
-import concurrent.futures
 import contextlib
+import http.client
 import importlib
 import importlib.util
 import json
 import multiprocessing
+import os
 import pathlib
 import random
 import signal
@@ -25,10 +28,12 @@ import struct
 import subprocess
 import sys
 import tempfile
+import threading
 import time
 import urllib.error
 import urllib.request
 from collections.abc import Callable, Iterable
+from concurrent.futures import Executor, ProcessPoolExecutor
 from typing import Any
 
 from osgeo import gdal, ogr
@@ -37,6 +42,7 @@ from overlayd.register.answers import Program
 from overlayd.register.auditing import audit
 from overlayd.register.beginning import engine_of, opened
 from overlayd.register.geojson import geometry_of
+from overlayd.register.model import Refused
 from overlayd.register.tables import Item, Table
 from overlayd_lab import LAB, TOP
 from overlayd_lab.counting import Tries, Words
@@ -47,6 +53,9 @@ KEPT = (("pairs", "pz", "parcels", "zones"), ("check", "shared", "parcels"), ("d
 RULES = (("parcels", "must not overlap"), ("parcels", "must not have gaps"))
 UTM = "<http://www.opengis.net/def/crs/EPSG/0/25832>"
 SECONDS = 600.0
+AMID = 0.2  # seconds in which the front is killed after it was asked
+RUNNING: list[Any] = []  # what QGIS wants to be kept
+Writer = Callable[[str, str, int, bytes], None]
 Written = list[tuple[str, int, str | None]]
 """Features that an edit has written: layer, key, and digest where they are not gone."""
 
@@ -70,6 +79,22 @@ def by_gdal(words: str, name: str, fid: int, shape: bytes) -> None:
     layer.SetFeature(feature)
 
 
+def by_qgis(words: str, name: str, fid: int, shape: bytes) -> None:
+    """Another shape of a feature, by QGIS without a screen."""
+    core = importlib.import_module("qgis.core")
+    if core.QgsApplication.instance() is None:
+        os.environ["QT_QPA_PLATFORM"] = "offscreen"
+        RUNNING.append(core.QgsApplication([], False))
+        RUNNING[0].initQgis()
+    place = f"{words[3:]} key='fid' table=\"public\".\"{name}\" (geom)" if words.startswith("PG:") else \
+        f"{words}|layername={name}"
+    layer = core.QgsVectorLayer(place, name, "postgres" if words.startswith("PG:") else "ogr")
+    geometry = core.QgsGeometry()
+    geometry.fromWkb(shape)
+    if not (layer.startEditing() and layer.changeGeometry(fid, geometry) and layer.commitChanges()):
+        raise RuntimeError(f"QGIS: {layer.error().summary()} {layer.commitErrors()}")
+
+
 def appended(words: str, name: str, geometry: object, values: dict[str, Any]) -> None:
     """A new feature, by fiona."""
     with importlib.import_module("fiona").open(words, "a", layer=name) as sink:
@@ -81,13 +106,36 @@ class Trial:
 
     def __init__(self, words: str, features: str, seed: int, tries: Tries) -> None:
         self.words, self.features, self.draw, self.tries = words, features, random.Random(seed), tries
-        self.engine, self.register = engine_of(words, writes_layers=True), opened(words)
-        self.tables = {name: Table(self.engine, self.register.layer(name)) for name in LAYERS}
+        self.open()
         self.known = {(name, fid): etag for name in LAYERS for fid, etag in self.etags(name).items()}
         self.beside: dict[str, subprocess.Popen[str]] = {}
-        # Of a file that GDAL closes the process loses all of SQLite's locks: so GDAL works in another one.
-        self.gdal = concurrent.futures.ProcessPoolExecutor(1, multiprocessing.get_context("spawn"))
-        self.address, self.counts = "", dict.fromkeys(("sql", "ogr", "fiona", "front", "refused", "kills"), 0)
+        # Of a file that GDAL closes the process loses all of SQLite's locks: so GDAL and QGIS work in others.
+        self.pools: dict[Writer, Executor] = {writer: self.pool() for writer in (by_gdal, by_qgis)}
+        self.ways = {"sql": 6, "ogr": 2, "ogr2ogr": 1, "front": 4}
+        self.ways |= {"fiona": 1} if importlib.util.find_spec("fiona") and not self.is_database() else {}
+        self.ways |= {"qgis": 1} if importlib.util.find_spec("qgis") else {}
+        self.kills = ["front", "watch", "refresh", "kept", *(["backend"] if self.is_database() else [])]
+        self.address, self.counts = "", dict.fromkeys(
+            [*self.ways, "refused", "failed", *(f"{one} killed" for one in self.kills)], 0)
+
+    def pool(self) -> Executor:
+        return ProcessPoolExecutor(1, multiprocessing.get_context("spawn"))
+
+    def is_database(self) -> bool:
+        return self.words.startswith("PG:")
+
+    def open(self) -> None:
+        """Opens the register, anew where a server that has lost a process is there again."""
+        end = time.monotonic() + SECONDS
+        while True:
+            try:
+                self.engine, self.register = engine_of(self.words, writes_layers=True), opened(self.words)
+                break
+            except Refused:
+                if time.monotonic() > end:
+                    raise
+                time.sleep(0.2)
+        self.tables = {name: Table(self.engine, self.register.layer(name)) for name in LAYERS}
 
     def etags(self, name: str) -> dict[int, str]:
         return {one.fid: one.etag() for one in self.tables[name].page(-1, 10**9)}
@@ -103,19 +151,34 @@ class Trial:
             self.address = line.readline().strip()
 
     def kill(self) -> None:
-        """Ends a process beside at any moment, and begins it anew."""
-        what = self.draw.choice(("front", "watch", "refresh"))
+        """Ends a process at any moment, and begins it anew where nobody else does."""
+        what = self.draw.choice(self.kills)
+        self.counts[f"{what} killed"] += 1
+        if what == "backend":
+            found = self.engine.ask("SELECT pid FROM pg_stat_activity WHERE datname = current_database() ORDER BY 1")
+            os.kill(self.draw.choice(found)[0], signal.SIGKILL)
+            time.sleep(self.draw.random())
+            return self.open()
+        if what == "kept":  # the watch of the front, which begins it anew
+            tasks = pathlib.Path(f"/proc/{self.beside['front'].pid}/task").glob("*/children")
+            for process in {int(one) for path in tasks for one in path.read_text().split()}:
+                if b"watch" in pathlib.Path(f"/proc/{process}/cmdline").read_bytes().split(b"\0"):
+                    os.kill(process, signal.SIGKILL)
+            return None
+        if what == "front":
+            return self.note(self.by_front(dies=True))
         if what == "refresh":
             self.begin(what)
             time.sleep(self.draw.random())
+        self.end(what)
+        return self.begin(what) if what != "refresh" else None
+
+    def end(self, what: str) -> None:
         self.beside[what].send_signal(signal.SIGKILL)
         self.beside[what].wait()
-        self.counts["kills"] += 1
-        if what != "refresh":
-            self.begin(what)
 
-    def feature(self) -> tuple[str, Item | None]:
-        name = self.draw.choice(("parcels", "parcels", "zones"))
+    def feature(self, names: tuple[str, ...] = ("parcels", "parcels", "zones")) -> tuple[str, Item | None]:
+        name = self.draw.choice(names)
         ((low, high),) = self.engine.ask(f"SELECT min(fid), max(fid) FROM {name}")
         found = self.tables[name].page(self.draw.randint(low - 1, high - 1), 1)
         return name, found[0] if found and found[0].shape else None
@@ -134,27 +197,57 @@ class Trial:
         table.update(one.fid, shape, {})
         return [(name, one.fid, table.item(one.fid).etag())]
 
-    def by_ogr(self) -> Written:
+    def shaped(self, writer: Writer) -> Written:
+        """Another shape of a feature, by a writer in a process of its own; what one that fails has left."""
         name, one = self.feature()
         if one is None or one.shape is None:
             return []
-        self.gdal.submit(by_gdal, self.words, name, one.fid, moved(self.draw, one.shape)).result()
+        try:
+            self.pools[writer].submit(writer, self.words, name, one.fid, moved(self.draw, one.shape)).result(SECONDS)
+        except RuntimeError as fault:  # of GDAL, as where a file is locked for long, or its process has ended
+            print(f"{writer.__name__}: {fault}", flush=True)
+            self.counts["failed"] += 1
+            self.pools[writer] = self.pool()
         return [(name, one.fid, self.tables[name].item(one.fid).etag())]
 
+    def by_ogr(self) -> Written:
+        return self.shaped(by_gdal)
+
+    def by_qgis(self) -> Written:
+        return self.shaped(by_qgis)
+
     def by_fiona(self) -> Written:
+        return self.added(lambda name, geometry, values: self.pools[by_gdal].submit(
+            appended, self.words, name, geometry, values).result(SECONDS))
+
+    def by_ogr2ogr(self) -> Written:
+        def run(name: str, geometry: object, values: dict[str, Any]) -> None:
+            with tempfile.NamedTemporaryFile("w", suffix=".geojson") as file:
+                json.dump({"type": "Feature", "properties": values, "geometry": geometry}, file)
+                file.flush()
+                done = subprocess.run(["ogr2ogr", "-append", "-update", self.words, file.name, "-nln", name, "-a_srs",
+                                       "EPSG:25832"], text=True, capture_output=True, timeout=SECONDS, check=False)
+                if done.returncode:  # as a file that is locked for longer than GDAL waits
+                    print(f"ogr2ogr: {done.stderr}", flush=True)
+                    self.counts["failed"] += 1
+
+        return self.added(run)
+
+    def added(self, writer: Callable[[str, object, dict[str, Any]], object]) -> Written:
+        """A new feature."""
         name, one = self.feature()
         if one is None or one.shape is None:
             return []
-        geometry = geometry_of(moved(self.draw, one.shape))
-        self.gdal.submit(appended, self.words, name, geometry, dict(one.values)).result()
-        ((fid,),) = self.engine.ask(f"SELECT max(fid) FROM {name}")
-        return [(name, fid, self.tables[name].item(fid).etag())]
+        ((last,),) = self.engine.ask(f"SELECT max(fid) FROM {name}")
+        writer(name, geometry_of(moved(self.draw, one.shape)), dict(one.values))
+        new = self.engine.ask(f"SELECT fid FROM {name} WHERE fid > {last}")
+        return [(name, fid, self.tables[name].item(fid).etag()) for fid, in new]
 
-    def by_front(self) -> Written:
+    def by_front(self, dies: bool = False) -> Written:
         """A transaction of one to three changes of different features; none where a rule refuses it."""
-        found = dict[tuple[str, int], Item]()
+        found, names = dict[tuple[str, int], Item](), self.draw.choice((("parcels",), ("zones",)))
         for _ in range(self.draw.choice((1, 1, 3))):
-            name, one = self.feature()
+            name, one = self.feature(names)
             if one is not None:
                 found[name, one.fid] = one
         changes = [{"update": name, "id": fid, "etag": one.etag(), "feature": {
@@ -162,23 +255,39 @@ class Trial:
             for (name, fid), one in found.items()]
         asked = urllib.request.Request(f"{self.address}transaction", json.dumps({"changes": changes}).encode(),
                                        {"Content-Type": "application/json", "Content-Crs": UTM})
+        timer = threading.Timer(self.draw.random() * AMID, self.end, ("front",))
+        if dies:
+            timer.start()
         try:
             with urllib.request.urlopen(asked, timeout=SECONDS) as answer:
-                told = json.load(answer)
+                told = json.load(answer)["features"]
+                written = [(one["collection"], one["id"], one["etag"]) for one in told]
         except urllib.error.HTTPError as fault:
-            self.tries.that(fault.code in (409, 422), f"status {fault.code}") if fault.code not in (409, 422) else None
+            if fault.code not in (409, 422, 503):
+                self.tries.that(False, f"status {fault.code}: {fault.read()!r}")
             self.counts["refused"] += 1
-            return []
-        return [(one["collection"], one["id"], one["etag"]) for one in told["features"]]
+            written = []
+        except (OSError, http.client.HTTPException, ValueError) as fault:  # killed before it has answered
+            if not dies:
+                raise
+            now = [(name, fid, self.tables[name].item(fid).etag()) for name, fid in found]
+            written = [one for one in now if one[2] != found[one[:2]].etag()]
+            if len(written) not in (0, len(now)):
+                self.tries.that(False, f"{fault}: of {len(now)} changes of a transaction {len(written)} are there")
+        if dies:
+            timer.join()
+            self.begin("front")
+        return written
 
     def edit(self) -> None:
         """One edit by one of those that write."""
-        ways: dict[str, Callable[[], Written]] = {"sql": self.by_sql, "ogr": self.by_ogr, "front": self.by_front}
-        if importlib.util.find_spec("fiona") and not self.words.startswith("PG:"):
-            ways["fiona"] = self.by_fiona
-        way = self.draw.choices([*ways], [6 if name == "sql" else 1 if name == "fiona" else 2 for name in ways])[0]
-        written = ways[way]()
+        (way,) = self.draw.choices([*self.ways], [*self.ways.values()])
+        written = getattr(self, f"by_{way}")()
         self.counts[way] += bool(written)
+        self.note(written)
+
+    def note(self, written: Written) -> None:
+        """Keeps what an edit that is acknowledged has made."""
         for name, fid, etag in written:
             if etag is None:
                 self.known.pop((name, fid), None)
@@ -195,9 +304,11 @@ class Trial:
         program = Program(Ask(self.features), self.register.state().factor)
         found = audit(opened(self.words), program)
         self.tries.that(all(one.is_right() for one in found), f"{done} edits: " + "; ".join(map(str, found)))
+        print(", ".join(f"{count} {name}" for name, count in self.counts.items()), flush=True)
 
-    def end(self) -> None:
-        self.gdal.shutdown()
+    def close(self) -> None:
+        for pool in self.pools.values():
+            pool.shutdown()
         for one in self.beside.values():
             one.terminate()
             one.wait()
@@ -234,7 +345,7 @@ def main(given: Iterable[str] | None = None) -> int:
     with tempfile.TemporaryDirectory() as folder, contextlib.ExitStack() as ending:
         one = Trial(made(pathlib.Path(folder), asked.database, asked.parcels, asked.features), asked.features,
                     asked.seed, tries)
-        ending.callback(one.end)
+        ending.callback(one.close)
         for what in ("front", "watch"):
             one.begin(what)
         for done in range(1, asked.edits + 1):
@@ -243,7 +354,6 @@ def main(given: Iterable[str] | None = None) -> int:
                 one.kill()
             if done % max(1, asked.edits // asked.stops) == 0:
                 one.stop(done)
-        print(", ".join(f"{count} {name}" for name, count in one.counts.items()))
     return tries.end()
 
 

@@ -9,8 +9,6 @@ gate, whose tests have 250 slow clients for some seconds.
 
 Status 0 and a last line `N passed, 0 failed`, or what fell."""
 
-from __future__ import annotations
-
 import contextlib
 import http.client
 import pathlib

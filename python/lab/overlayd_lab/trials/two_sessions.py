@@ -5,8 +5,6 @@ python3 -m overlayd_lab.trials.two_sessions LIVE [--rounds N]
 In each round one session puts the layer, and as soon as it has `ok N` the other asks for a point that has changed sides
 by it; both ways are asked equally often. Status 1: an answer was of an older version."""
 
-from __future__ import annotations
-
 import sys
 
 from overlayd.program import Server, Session

@@ -1,7 +1,5 @@
 """How the functions ask: which program, and which grid, by the words of who calls them."""
 
-from __future__ import annotations
-
 import contextlib
 import os
 from collections.abc import Iterator

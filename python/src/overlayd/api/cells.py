@@ -16,7 +16,7 @@ from ..kernel.features import Features, joined
 from ..kernel.laying import Laid
 from ..kernel.membership import Members, members_of, overlapping
 from ..kernel.overlaying import overlay_within, pairs_in
-from ..kernel.rows import CELLS
+from ..kernel.rows import CELLS, rows_joined, taken
 from .asking import NoAnswer
 
 
@@ -42,12 +42,12 @@ def answered(features: Features, jobs: Jobs, spell: Spell, laid: Laid, ask: Ask)
             raise NoAnswer(f"job {at + int(faults[0])}", int(some.faults()[faults[0]]))
         own = np.flatnonzero(some.rows["pieces"] > 0)
         found.append(own + at)
-        rows.append(some.rows[own])
+        rows.append(taken(some.rows, own))
         at += len(some.rows)
         if ask.wants & Wants.OUTLINES:
             outlines.append(some.outlines(laid.factor).part(own))
     column = columns_joined(outlines) if ask.wants & Wants.OUTLINES else None
-    return Cells(np.concatenate(found), np.concatenate(rows), column, laid)
+    return Cells(np.concatenate(found), rows_joined(rows), column, laid)
 
 
 def layers_of(laid: Laid, number: int, ask: Ask, groups: Numbers | None = None) -> Members:

@@ -1,7 +1,5 @@
 """check: where features of one frame overlap, and the gaps between them."""
 
-from __future__ import annotations
-
 from typing import NamedTuple
 
 import geopandas

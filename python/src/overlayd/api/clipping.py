@@ -1,7 +1,5 @@
 """clip: as geopandas.clip, exactly on a grid."""
 
-from __future__ import annotations
-
 from typing import Any
 
 import geopandas

@@ -1,7 +1,5 @@
 """derive: the region of an expression over frames."""
 
-from __future__ import annotations
-
 from collections.abc import Mapping
 
 import geopandas

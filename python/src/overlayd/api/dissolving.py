@@ -1,7 +1,5 @@
 """dissolve: as GeoDataFrame.dissolve, with exact unions."""
 
-from __future__ import annotations
-
 from typing import Any
 
 import geopandas

@@ -1,7 +1,5 @@
 """GeoDataFrames as columns of Well-Known Binary, and back, with what the grid did."""
 
-from __future__ import annotations
-
 import contextlib
 import dataclasses
 import warnings

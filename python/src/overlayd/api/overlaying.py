@@ -1,7 +1,5 @@
 """overlay: as geopandas.overlay, exactly on a grid."""
 
-from __future__ import annotations
-
 from typing import Any
 
 import geopandas
@@ -96,8 +94,9 @@ class Table:
 
     def _measures(self, areas: Areas) -> dict[str, Any]:
         """The areas as fractions, where these are wanted."""
-        own = np.array([areas.exact(place) for place in range(len(areas))], object)
-        return {} if self.exact is None else {self.exact: own}
+        if self.exact is None:
+            return {}
+        return {self.exact: np.array([areas.exact(place) for place in range(len(areas))], object)}
 
 
 def joined(rest: Frame, exact: str) -> Frame:

@@ -1,7 +1,5 @@
 """pairs: as geopandas.sjoin, with exact predicates and the area that both have in common."""
 
-from __future__ import annotations
-
 import geopandas
 import numpy as np
 import pandas as pd

@@ -4,8 +4,6 @@ Rows are worked out by left partitions: with each come the right ones whose boxe
 about them, whose corners may lie on steps of either. Nothing is found twice.
 """
 
-from __future__ import annotations
-
 import dataclasses
 from collections.abc import Callable, Sequence
 from fractions import Fraction

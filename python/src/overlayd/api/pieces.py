@@ -1,7 +1,5 @@
 """The pieces of two maps, and what is wrong in one, with outlines: columns in, rows out, without GeoDataFrames."""
 
-from __future__ import annotations
-
 from collections.abc import Iterator, Sequence
 from dataclasses import dataclass
 from typing import NamedTuple

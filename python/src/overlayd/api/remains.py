@@ -1,7 +1,5 @@
 """Points and lines that polygons have in common. The program has polygons alone, so these are GEOS's, in doubles."""
 
-from __future__ import annotations
-
 from collections.abc import Iterator
 from typing import Any
 

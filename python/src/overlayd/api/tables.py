@@ -1,7 +1,5 @@
 """Rows of parts as geopandas.overlay lays them out: columns, index and order."""
 
-from __future__ import annotations
-
 from collections.abc import Mapping, Sequence
 from typing import Any
 

@@ -1,7 +1,5 @@
 """Lists where the features of one map overlap, and the gaps between them."""
 
-from __future__ import annotations
-
 import pathlib
 
 import numpy as np
@@ -18,10 +16,9 @@ from . import map_words, pairs
 from .map_words import Question
 
 
-@map_words.question(
-    "check", argument("first", metavar="A"), *map_words.words("a"), *map_words.table_words(),
-    option("--gaps", "the gaps as shapes: .geojson, .gpkg or .fgb", FILE, metavar="FILE"),
-    flag("--no-audit", "leave the audit out"))
+@map_words.question("check", argument("first", metavar="A"), *map_words.words("a"), *map_words.table_words(),
+                    option("--gaps", "the gaps as shapes: .geojson, .gpkg or .fgb", FILE, metavar="FILE"),
+                    flag("--no-audit", "leave the audit out"))
 def command(question: Question) -> None:
     """List where features of one map overlap, and the gaps between them.
 
@@ -51,7 +48,7 @@ def command(question: Question) -> None:
         found = check(read.column, ask, pairs.wanted(given))
     except TooDeep as fault:
         write_overlaps(question, fault.overlaps, fault.unanswered)
-        question.tell_unanswered([f"{read.labels[fault.feature]}: it overlaps so many others that {fault.most} layers "
+        question.tell_unanswered([f"{read.label(fault.feature)}: it overlaps so many others that {fault.most} layers "
                                   "do not hold them; take features out there: gaps are not looked for, the audit is "
                                   "left out"])
         return
@@ -70,7 +67,7 @@ def write_overlaps(question: Question, overlaps: Overlay, unanswered: Overlay) -
     areas = overlaps.areas()
     question.say(f"{len(areas)} pairs overlap, and sum to {float(areas.total()):.12g}, off by at most "
                  f"{float(areas.total_bound()):.1g}")
-    question.tell_unanswered([f"{read.labels[i]}, and {read.labels[j]}: {map_words.why(fault)}" for (i, j), fault in
+    question.tell_unanswered([f"{read.label(i)}, and {read.label(j)}: {map_words.why(fault)}" for (i, j), fault in
                               zip(unanswered.pairs.tolist(), unanswered.rows["fault"].tolist())])
 
 

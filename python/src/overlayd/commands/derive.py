@@ -1,7 +1,5 @@
 """Says what an expression over maps is, as shapes and its area."""
 
-from __future__ import annotations
-
 import pathlib
 
 import click
@@ -15,10 +13,9 @@ from . import map_words
 from .map_words import Question
 
 
-@map_words.question(
-    "derive", argument("expression", metavar="EXPRESSION"),
-    argument("names", metavar="NAME=FILE..", nargs=-1, required=True), *map_words.words("a"),
-    option("--out", "its polygons, each with its area: .geojson, .gpkg or .fgb", FILE, metavar="FILE"))
+@map_words.question("derive", argument("expression", metavar="EXPRESSION"),
+                    argument("names", metavar="NAME=FILE..", nargs=-1, required=True), *map_words.words("a"),
+                    option("--out", "its polygons, each with its area: .geojson, .gpkg or .fgb", FILE, metavar="FILE"))
 def command(question: Question) -> None:
     """Write what an expression over maps is.
 

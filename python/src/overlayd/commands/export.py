@@ -133,12 +133,11 @@ def check_output(words: Words) -> None:
             raise click.UsageError(f"--output: {fault}")
 
 
-@subcommand(
-    __doc__, *store_layers.words(many=True), flag("--top", "only layers that no definition names"),
-    flag("--parts", "a feature for each polygon"),
-    flag("--exact", "area_exact in each feature, however many digits it has"),
-    option("--output", "in the place of standard output: .geojson, .gpkg or .fgb", FILE, metavar="FILE"),
-    *store_layers.scale_words())
+@subcommand(__doc__, *store_layers.words(many=True), flag("--top", "only layers that no definition names"),
+            flag("--parts", "a feature for each polygon"),
+            flag("--exact", "area_exact in each feature, however many digits it has"),
+            option("--output", "in the place of standard output: .geojson, .gpkg or .fgb", FILE, metavar="FILE"),
+            *store_layers.scale_words())
 def command(words: Words) -> int:
     check_output(words)
     return store_layers.run(words, write, many=True)

@@ -1,7 +1,5 @@
 """The words that questions over maps have in common, and what is done with them: maps are read, faults reported."""
 
-from __future__ import annotations
-
 import collections
 import os
 import pathlib
@@ -124,7 +122,8 @@ class Question:
             self.say(f"left out, {len(read_map.left_out)}: {some(read_map.left_out)}")
         if read_map.system is None and form_of(path):
             self.say(f"{path}: its coordinate system is unknown, as the file does not say it")
-        counts = collections.Counter(read_map.names.tolist() if name_by is not None else [])
+        names = read_map.names.tolist() if name_by is not None else []
+        counts = collections.Counter(names if len({*names}) < len(names) else [])
         if alike := [f"{name} ({count} times)" for name, count in counts.items() if count > 1]:
             self.say(f"{path}: the same {name_by} several times, {len(alike)}: {some(alike)}")
 
@@ -153,7 +152,7 @@ class Question:
         self.say(laid.line)
         for one, gone in zip(self.maps, laid.collapsed):
             if len(gone):
-                self.say(f"nothing is left on the grid of {len(gone)}: {some(one.labels[gone].tolist())}")
+                self.say(f"nothing is left on the grid of {len(gone)}: {some([*map(one.label, gone.tolist())])}")
 
     def tell_unanswered(self, lines: Sequence[str]) -> None:
         """Of what there is no answer; the status is 1 where there is any."""
@@ -224,7 +223,7 @@ def some(names: Sequence[str]) -> str:
 
 def map_fault_text(fault: MapFault, maps: Sequence[MapColumn]) -> str:
     """A map that is not taken: its file, its feature, and what to do."""
-    label = maps[fault.map].labels[fault.feature]
+    label = maps[fault.map].label(fault.feature)
     if fault.what is not What.RANGE:
         return f"{label}: {fault.why}; mend it there"
     grid = "mend it there" if fault.grid is None else f"say --grid {float(fault.grid):g}, or mend it there"

@@ -1,7 +1,5 @@
 """Lists which features of two maps overlap or touch, how, and by how much."""
 
-from __future__ import annotations
-
 import pathlib
 import sys
 from collections.abc import Mapping
@@ -51,7 +49,7 @@ def command(question: Question) -> None:
     areas = rows.areas()
     question.say(f"{len(rows) - touching} pairs overlap, {touching} touch; areas sum to "
                  f"{float(areas.total()):.12g}, off by at most {float(areas.total_bound()):.1g}")
-    question.tell_unanswered([f"{a.labels[i]}, and {b.labels[j]}: {map_words.why(fault)}" for (i, j), fault in zip(
+    question.tell_unanswered([f"{a.label(i)}, and {b.label(j)}: {map_words.why(fault)}" for (i, j), fault in zip(
         found.pairs[found.faults()].tolist(), found.rows["fault"][found.faults()].tolist())])
 
 

@@ -1,7 +1,5 @@
 """Writes all pieces of two maps: common ones, and those of one map alone."""
 
-from __future__ import annotations
-
 import pathlib
 import sys
 from collections.abc import Sequence
@@ -49,7 +47,7 @@ class Table:
         own = self.a, self.b, areas, self.areas.bounds(), widths(self.shapes, areas), self.relations
         return {head: column.tolist() for head, column in zip(HEADS, own)}
 
-    def largest_first(self) -> Table:
+    def largest_first(self) -> "Table":
         """Pieces by their areas; of equal ones those that came first."""
         parts = self.areas.parts
         order = np.lexsort((np.arange(len(parts)), ~parts["low"], -parts["high"]))
@@ -139,8 +137,7 @@ def write(table: Table, out: pathlib.Path | None, shown: pathlib.Path | None, qu
         properties = {name: columns[name] for name in ("a", "b", "area")}
         shape_files.write(shown, table.shapes, properties, question.system())
         question.say(f"{len(table.a)} pieces in {shown}")
-    names = [quoted(own) for own in (table.a, table.b)]
-    own = [[] if one is None else one.tolist() for one in names]
+    own = [quoted(names).tolist() for names in (table.a, table.b)]
     lines = map("{},{},{!r},{!r},{:.4g},{}\n".format, *own, *(columns[head] for head in HEADS[2:]))
     if out is None:
         sys.stdout.write(",".join(HEADS) + "\n")
@@ -163,12 +160,12 @@ def tell(question: Question, common: Overlay | None, own: Sequence[Alone | None]
 def tell_unanswered(question: Question, common: Overlay, own: Sequence[Alone | None], a: MapColumn,
                     b: MapColumn) -> bool:
     """Of what there is no answer; whether there is any."""
-    lines = [f"{a.labels[i]}, and {b.labels[j]}: {map_words.why(fault)}" for (i, j), fault in zip(
+    lines = [f"{a.label(i)}, and {b.label(j)}: {map_words.why(fault)}" for (i, j), fault in zip(
         common.pairs[common.faults()].tolist(), common.rows["fault"][common.faults()].tolist())]
     for side, read in zip(own, (a, b)):
         if side is not None:
             faults = np.flatnonzero(side.rows["fault"])
-            lines += [f"{read.labels[feature]}: {map_words.why(fault)}; what it has alone is left out"
+            lines += [f"{read.label(feature)}: {map_words.why(fault)}; what it has alone is left out"
                       for feature, fault in zip(side.features[faults].tolist(), side.rows["fault"][faults].tolist())]
     question.tell_unanswered(lines)
     return bool(lines)

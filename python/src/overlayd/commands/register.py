@@ -6,7 +6,6 @@ from __future__ import annotations
 
 import functools
 import signal
-import sqlite3
 import tempfile
 from fractions import Fraction
 from pathlib import Path
@@ -53,7 +52,7 @@ class Reporting(Group):
 
     def invoke(self, context: click.Context) -> int:
         modules()
-        ends: tuple[type[Exception], ...] = (Unusable, sqlite3.Error, *faults())
+        ends: tuple[type[Exception], ...] = (Unusable, *faults())
         try:
             return int(super().invoke(context) or 0)
         except Refused as fault:
@@ -268,6 +267,12 @@ def past(file: str, date: str, target: str, layers: tuple[str, ...]) -> None:
         for name in names:
             items = Past(register.engine, register.layer(name), moment(date)).all()
             click.echo(f"{name}: {sources.write(target, name, items)} features")
+
+
+@command.command("delete-column", params=[FILE, argument("layer"), argument("column")])
+def delete_column(file: str, layer: str, column: str) -> None:
+    """Deletes a column of a layer; what it had in former states goes on to be in the log."""
+    opened(file).delete_column(layer, column)
 
 
 @command.command(params=[FILE, argument("date")])

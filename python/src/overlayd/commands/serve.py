@@ -14,8 +14,6 @@ Status 0: ended by SIGTERM or an interrupt; 1: the store could not be opened, no
 overlay_live has ended by itself or by a fault or answers no more, or a copy of the store is in its place after a
 write failed, each of which is reported: begin it anew; 2: wrong words."""
 
-from __future__ import annotations
-
 import contextlib
 import ipaddress
 import urllib.parse

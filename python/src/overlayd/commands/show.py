@@ -16,8 +16,6 @@ opened where there is a screen, but for --no-browser. Ctrl-C ends the front.
 Status 0: ended by Ctrl-C or SIGTERM, or all of it made by --only-make; 1: a program is not there, a file cannot be
 written, or the front ended by a fault; 2: wrong words, or a map that cannot be read."""
 
-from __future__ import annotations
-
 import contextlib
 import json
 import os
@@ -112,18 +110,17 @@ def show(words: Words, file: str) -> int:
         return min(1, abs(front.wait()))
 
 
-@subcommand(
-    __doc__, argument("map", FILE, metavar="MAP"),
-    option("--with others", "a further map; may be given several times", FILE, metavar="MAP", multiple=True),
-    option("--name-by", "what the features are called by", metavar="PROPERTY"),
-    option("--crs", "the name of the coordinates, where the files do not say it", CRS),
-    option("--source-layer", "the layer of files that have several, as GeoPackages", metavar="NAME"),
-    option("--grid", "the grid, as 0.001 (default: by the maps' own digits)", metavar="UNIT"),
-    option("--output", "where the register stays", FILE, metavar="FILE.gpkg"),
-    flag("--writable", "let HTTP change the map"),
-    option("--port", "of the front; 0 for one that is free (default 8080)", int, default=8080),
-    flag("--no-browser", "open no browser"), flag("--only-make", "make the register of --output, and start no front"),
-    program(FEATURES))
+@subcommand(__doc__, argument("map", FILE, metavar="MAP"),
+            option("--with others", "a further map; may be given several times", FILE, metavar="MAP", multiple=True),
+            option("--name-by", "what the features are called by", metavar="PROPERTY"),
+            option("--crs", "the name of the coordinates, where the files do not say it", CRS),
+            option("--source-layer", "the layer of files that have several, as GeoPackages", metavar="NAME"),
+            option("--grid", "the grid, as 0.001 (default: by the maps' own digits)", metavar="UNIT"),
+            option("--output", "where the register stays", FILE, metavar="FILE.gpkg"),
+            flag("--writable", "let HTTP change the map"),
+            option("--port", "of the front; 0 for one that is free (default 8080)", int, default=8080),
+            flag("--no-browser", "open no browser"),
+            flag("--only-make", "make the register of --output, and start no front"), program(FEATURES))
 def command(words: Words) -> int:
     if words.only_make and not words.output:
         raise click.UsageError("--only-make needs --output FILE.gpkg")

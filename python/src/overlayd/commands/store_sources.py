@@ -1,7 +1,5 @@
 """The layers of a store, and the features that versions before registers kept beside it, as files to make one of."""
 
-from __future__ import annotations
-
 import hashlib
 import json
 import subprocess

@@ -1,7 +1,5 @@
 """Does tasks of a --work folder: for xargs, GNU parallel, Slurm."""
 
-from __future__ import annotations
-
 import pathlib
 
 from ..maps import asking

@@ -1,7 +1,5 @@
 """Layers of files as columns, by GDAL's Arrow stream and numpy: no feature of its own in Python."""
 
-from __future__ import annotations
-
 import pathlib
 from collections.abc import Iterator
 from dataclasses import dataclass
@@ -75,7 +73,7 @@ class Layer:
         try:
             for batch in self.table.GetArrowStreamAsNumPy(options=[f"MAX_FEATURES_IN_BATCH={BATCH}"]):
                 numbers = batch[number]
-                names = numbers.astype(str) if self.name_by is None else self._names(numbers, batch[self.name_by])
+                names = texts(numbers) if self.name_by is None else self._names(numbers, batch[self.name_by])
                 yield Batch(numbers, names, of_arrow(batch[shape]))
         except RuntimeError as fault:
             raise ReadingFault(f"{self.path}: {str(fault) or 'GDAL cannot read it to its end'}") from None
@@ -87,12 +85,14 @@ class Layer:
             raise ReadingFault(f"{self.path}: feature {numbers[np.flatnonzero(names.mask)[0]]}: no {self.name_by}; say "
                                "another property, that each feature has")
         try:
-            if own.dtype.kind == "O":
-                own = np.array([one.decode() if isinstance(one, bytes) else str(one) for one in own.tolist()], str)
-            found: Numbers = np.char.decode(own, "utf-8") if own.dtype.kind == "S" else own.astype(str)
+            return texts(own if own.dtype.kind in "OS" else own.astype(str))
         except UnicodeDecodeError:
             raise ReadingFault(f"{self.path}: {gdal_files.not_utf8(pathlib.Path(self.path))}") from None
-        return found
+
+
+def texts(values: Numbers) -> Numbers:
+    """Values as texts, of bytes those that they spell."""
+    return np.array([one.decode() if isinstance(one, bytes) else str(one) for one in values.tolist()], object)
 
 
 def listed(names: list[str]) -> str:

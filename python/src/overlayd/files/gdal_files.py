@@ -16,17 +16,13 @@ from . import coordinate_systems, writing
 
 TABLE = "a table with a column of Well-Known Text"
 # By the end of a name: what the form is called, where it does not begin as one of MAGIC.
-FORMS = {
-    ".gpkg": "a GeoPackage", ".shp": "a Shapefile", ".shz": "a Shapefile", ".fgb": "a FlatGeobuf", ".gml": "GML",
-    ".csv": TABLE, ".kml": "KML", ".kmz": "KML", ".gdb": "a file geodatabase",
-    ".tab": "a MapInfo file", ".mif": "a MapInfo file", ".sqlite": "a SpatiaLite store", ".zip": "an archive",
-}
+FORMS = {".gpkg": "a GeoPackage", ".shp": "a Shapefile", ".shz": "a Shapefile", ".fgb": "a FlatGeobuf", ".gml": "GML",
+         ".csv": TABLE, ".kml": "KML", ".kmz": "KML", ".gdb": "a file geodatabase", ".tab": "a MapInfo file",
+         ".mif": "a MapInfo file", ".sqlite": "a SpatiaLite store", ".zip": "an archive"}
 SQLITE = b"SQLite format 3\0"
 GML = b"opengis.net/gml"  # within the begin of each
-MAGIC = {
-    SQLITE: "a GeoPackage or SpatiaLite store", b"\0\0\x27\x0a": "a Shapefile", b"fgb": "a FlatGeobuf",
-    b"PK\x03\x04": "an archive", b"<": "XML, as GML and KML are",
-}
+MAGIC = {SQLITE: "a GeoPackage or SpatiaLite store", b"\0\0\x27\x0a": "a Shapefile", b"fgb": "a FlatGeobuf",
+         b"PK\x03\x04": "an archive", b"<": "XML, as GML and KML are"}
 # How texts begin that need no GDAL, whatever the file is called.
 OWN = re.compile(rb"(?:\xef\xbb\xbf)?[\s\x1e]*"
                  rb"(?:\{|SRID=|[A-Z]*(?:POINT|LINESTRING|POLYGON|COLLECTION)[ A-Z]*\()", re.I)

@@ -1,26 +1,26 @@
 """A map of a file as a column of polygons, with what calls its features, and what of it is left out."""
 
-from __future__ import annotations
-
+from collections.abc import Callable
 from dataclasses import dataclass
+from functools import partial
 
 import numpy as np
 
 from ..geometry.flat_arrays import Numbers
 from ..kernel.columns import Column, columns_joined, counts_at
 from ..kernel.ring_walk import HEAD, MULTIPOLYGON, ORDER, POLYGON, plain_kind
-from .arrow_reading import Batch, Layer, ReadingFault
+from .arrow_reading import Layer, ReadingFault
 
 
 @dataclass(frozen=True)
 class MapColumn:
-    """The polygons of a map, names and labels of its features, its system of coordinates where the file says it, what
-    is left out, and how many coordinates have more digits than a double."""
+    """The polygons of a map, names of its features, what a fault calls one by its place, its system of coordinates
+    where the file says it, what is left out, and how many coordinates have more digits than a double."""
 
     path: str
     column: Column
     names: Numbers
-    labels: Numbers
+    label: Callable[[int], str]
     system: str | None
     left_out: list[str]
     longer: int = 0
@@ -37,20 +37,19 @@ def read(path: str, name_by: str | None, layer: str | None = None, where: str | 
     for batch in table.batches():
         kinds = kinds_of(batch.column)
         other = (kinds != POLYGON) & (kinds != MULTIPOLYGON)
-        part = batch.column, batch.names, labels_of(path, batch, name_by)
-        left_out += [f"{part[2][place]}: {kind_name(int(kinds[place]))}" for place in np.flatnonzero(other).tolist()]
+        part = batch.column, batch.names, batch.numbers
+        label = partial(label_of, path, name_by is not None, *part[1:])
+        left_out += [f"{label(place)}: {kind_name(int(kinds[place]))}" for place in np.flatnonzero(other).tolist()]
         parts.append((part[0].part(np.flatnonzero(~other)), part[1][~other], part[2][~other]) if other.any() else part)
-    none: Numbers = np.zeros(0, object)
-    names, labels = (np.concatenate([none, *(part[place] for part in parts)]) for place in (1, 2))
-    return MapColumn(path, columns_joined([part[0] for part in parts]), names, labels, system, left_out)
+    names, numbers = (np.concatenate([none, *(part[place] for part in parts)]) for place, none in
+                      ((1, np.zeros(0, object)), (2, np.zeros(0, np.int64))))
+    label = partial(label_of, path, name_by is not None, names, numbers)
+    return MapColumn(path, columns_joined([part[0] for part in parts]), names, label, system, left_out)
 
 
-def labels_of(path: str, batch: Batch, name_by: str | None) -> Numbers:
-    """What a fault calls features."""
-    numbers = [f"{path}, feature {number}" for number in batch.numbers.tolist()]
-    if name_by is not None:
-        numbers = [f"{label} ({name})" for label, name in zip(numbers, batch.names.tolist())]
-    return np.array(numbers, object)
+def label_of(path: str, is_named: bool, names: Numbers, numbers: Numbers, place: int) -> str:
+    """What a fault calls a feature."""
+    return f"{path}, feature {numbers[place]}" + (f" ({names[place]})" if is_named else "")
 
 
 def kinds_of(column: Column) -> Numbers:

@@ -2,8 +2,6 @@
 
 What calls a feature is a text; a map's features are called by their numbers where no names are given."""
 
-from __future__ import annotations
-
 import io
 import sqlite3
 from collections.abc import Iterator, Mapping
@@ -13,7 +11,8 @@ from pathlib import Path
 import numpy as np
 
 from ..geometry.flat_arrays import Numbers, offsets, spans
-from ..kernel.columns import Column
+from ..geometry.shortest import PAD, spelled
+from ..kernel.columns import Column, of_bytes
 from ..kernel.overlaying import Overlay
 from ..kernel.rows import Relation
 from . import writing
@@ -22,6 +21,7 @@ from .gdal_writing import QUICKLY, configured, modules
 
 HEADS = ("a", "b", "relation", "area", "bound", "area_a", "area_b")
 QUOTED = set(',"\r\n')  # marks for which a name is quoted
+AT_ONCE, LONG = 1 << 13, 1 << 10  # lines of a text, and the letters of names up to which there are so many
 LAYER = "pairs"
 HEAD = np.frombuffer(b"GP\x00\x01", np.uint8)  # of a shape in a GeoPackage: version 0, lowest bytes first, no box
 EMPTY, SIZE_OF_EMPTY = 0x10, 9  # the bit of an empty shape; the bytes of one, than which no other has so few
@@ -43,11 +43,14 @@ class Named:
     def columns(self) -> list[list[object]]:
         """What a table has below its heads, column by column."""
         relations = np.array([one.name.lower() for one in Relation])
-        areas = [self.rows.areas(name) for name in ("both", "a", "b")]
         names = [called(own, self.rows.pairs[:, place]) for place, own in enumerate((self.a, self.b))]
-        numbers = [areas[0].doubles(), areas[0].bounds(), areas[1].doubles(), areas[2].doubles()]
-        own = [column.tolist() for column in (*names, relations[self.rows.relations()], *numbers)]
+        own = [column.tolist() for column in (*names, relations[self.rows.relations()], *self.numbers())]
         return [*own, *self.more.values()]
+
+    def numbers(self) -> list[Numbers]:
+        """The areas and the bound, column by column."""
+        areas = [self.rows.areas(name) for name in ("both", "a", "b")]
+        return [areas[0].doubles(), areas[0].bounds(), areas[1].doubles(), areas[2].doubles()]
 
 
 def called(names: Numbers | None, features: Numbers) -> Numbers:
@@ -56,10 +59,10 @@ def called(names: Numbers | None, features: Numbers) -> Numbers:
     return found
 
 
-def quoted(names: Numbers | None) -> Numbers | None:
+def quoted(names: Numbers) -> Numbers:
     """Names as a table of text has them."""
-    if names is None:
-        return None
+    if not QUOTED & {*"".join(names.tolist())}:
+        return names
     own = [f'"{name.replace(chr(34), chr(34) * 2)}"' if QUOTED & {*name} else name for name in names.tolist()]
     return np.array(own, object)
 
@@ -71,10 +74,37 @@ def write_text(path: Path, named: Named) -> None:
 
 
 def lines(named: Named) -> Iterator[str]:
-    """The lines of a table as CSV. Areas are the shortest decimals of their doubles."""
-    columns = Named(named.rows, quoted(named.a), quoted(named.b), named.more).columns()
+    """A table as CSV, many lines in each text. Areas are the shortest decimals of their doubles."""
     yield ",".join(named.heads()) + "\n"
-    yield from map(("{},{},{},{!r},{!r},{!r},{!r}" + ",{}" * len(named.more) + "\n").format, *columns)
+    rows = named.rows
+    names = [texts(own, rows.pairs[:, place]) for place, own in enumerate((named.a, named.b))]
+    called_by = [(own, rows.pairs[:, place]) for place, own in enumerate(names)]
+    called_by.append((of_bytes([one.name.lower().encode() for one in Relation]), rows.relations()))
+    numbers = named.numbers()
+    at_once = max(1, AT_ONCE // (1 + sum(int(np.diff(own.at).max(initial=0)) for own in names) // LONG))
+    for at in range(0, len(rows), at_once):
+        some = slice(at, at + at_once)
+        columns = [padded(own.part(places[some])) for own, places in called_by]
+        columns += [spelled(own[some]) for own in numbers]
+        columns += [padded(of_bytes([str(one).encode() for one in own[some]])) for own in named.more.values()]
+        comma, end = (np.full((1, columns[0].shape[1]), mark, np.uint8) for mark in b",\n")
+        parts = [part for own in columns for part in (own, comma)]
+        whole = np.ascontiguousarray(np.concatenate([*parts[:-1], end]).T)
+        yield whole.tobytes().translate(None, bytes([PAD])).decode()
+
+
+def texts(names: Numbers | None, features: Numbers) -> Column:
+    """What a table of text calls features, by their numbers."""
+    own = np.arange(int(features.max(initial=-1)) + 1) if names is None else quoted(names)
+    return of_bytes([str(one).encode() for one in own.tolist()])
+
+
+def padded(own: Column) -> Numbers:
+    """Texts as columns of bytes, PAD after each."""
+    sizes = np.diff(own.at)
+    rows: Numbers = np.full((len(sizes), int(sizes.max(initial=0))), PAD, np.uint8)
+    rows[np.arange(rows.shape[1]) < sizes[:, None]] = own.data
+    return rows.T
 
 
 def write_array(path: Path, rows: Overlay) -> None:

@@ -1,13 +1,12 @@
 """Shapes with properties as files: GeoJSON as a text, GeoPackage and FlatGeobuf by GDAL."""
 
-from __future__ import annotations
-
 import json
 import struct
 from collections.abc import Iterator, Mapping, Sequence
 from pathlib import Path
 from typing import Any
 
+from ..geometry.wkb import read
 from ..kernel.columns import Column
 from ..kernel.ring_walk import MULTIPOLYGON, POLYGON
 from . import coordinate_systems, gdal_writing, writing
@@ -48,30 +47,7 @@ def texts(pieces: Iterator[tuple[dict[str, Any], bytes]], system: str | None) ->
     yield f'{{"type": "FeatureCollection",\n{coordinate_systems.member(system)}"features": [\n'
     before = ""
     for properties, wkb in pieces:
-        geometry = {"type": "MultiPolygon", "coordinates": coordinates(wkb)}
-        feature = {"type": "Feature", "properties": properties, "geometry": geometry}
+        feature = {"type": "Feature", "properties": properties, "geometry": read(wkb)[0]}
         yield before + json.dumps(feature, ensure_ascii=False)
         before = ",\n"
     yield "\n]}\n"
-
-
-def coordinates(wkb: bytes) -> list[list[list[list[float]]]]:
-    """The coordinates of a multipolygon, as GeoJSON has them."""
-    (count,), at = struct.unpack_from("<I", wkb, 5), 9
-    polygons = []
-    for _ in range(count):
-        rings, at = rings_at(wkb, at)
-        polygons.append(rings)
-    return polygons
-
-
-def rings_at(wkb: bytes, at: int) -> tuple[list[list[list[float]]], int]:
-    """The rings of the polygon that begins at a byte, and where it ends."""
-    (count,), at = struct.unpack_from("<I", wkb, at + 5), at + 9
-    rings = []
-    for _ in range(count):
-        (points,), at = struct.unpack_from("<I", wkb, at), at + 4
-        given = struct.unpack_from(f"<{2 * points}d", wkb, at)
-        rings.append([list(point) for point in zip(given[::2], given[1::2])])
-        at += 16 * points
-    return rings, at

@@ -2,8 +2,6 @@
 
 GDAL reads these texts too, but loses of them ids that are not of one type, and how many digits a number has."""
 
-from __future__ import annotations
-
 import itertools
 import struct
 from collections.abc import Iterable, Iterator
@@ -104,7 +102,7 @@ def read(path: str, name_by: str | None) -> MapColumn:
     column = of_bytes(reading.shapes)
     usual = scales.CRS84 if is_geojson and is_in_degrees(column) else None
     system = crs or own_crs(source) or usual
-    return MapColumn(path, column, np.array(reading.names, object), np.array(reading.labels, object),
+    return MapColumn(path, column, np.array(reading.names, object), reading.labels.__getitem__,
                      None if system == UNKNOWN else system, reading.left_out, reading.longer)
 
 

@@ -1,12 +1,10 @@
 """Flat arrays: the parts of a list one after the other, as all modules by numpy keep them."""
 
-from __future__ import annotations
-
-from typing import Any, TypeAlias
+from typing import Any
 
 import numpy as np
 
-Numbers: TypeAlias = "np.ndarray[Any, Any]"
+Numbers = np.ndarray[Any, Any]
 MIXED = np.int64(0x9E3779B97F4A7C1)
 
 

@@ -6,8 +6,6 @@ that are as near the greater one is taken.
 
 A module for the tools and web/; it uses none of them."""
 
-from __future__ import annotations
-
 import math
 from decimal import Decimal
 from fractions import Fraction

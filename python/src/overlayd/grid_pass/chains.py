@@ -5,8 +5,6 @@ corners of all maps of a question, and of all bends. No chain is off its step by
 two chains cross whose steps did not. With wide pixels neither holds: chains move by at most one unit, and a few cross.
 """
 
-from __future__ import annotations
-
 from collections.abc import Callable
 from dataclasses import dataclass
 

@@ -5,8 +5,6 @@ times coarser while long steps would be bent more than once for each corner (fou
 coordinate is beyond the range. A register, or a run in parts, takes its grid once and keeps it.
 """
 
-from __future__ import annotations
-
 import enum
 from collections.abc import Callable, Sequence
 from dataclasses import dataclass

@@ -5,8 +5,6 @@ maps have in common is made the same only so. It is never done again on what it 
 no step is long, maps stay as they are, so that a sliver that somebody made is found.
 """
 
-from __future__ import annotations
-
 import enum
 import functools
 from collections.abc import Sequence

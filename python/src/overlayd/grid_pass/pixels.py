@@ -4,8 +4,6 @@ A point's pixel is the square of one unit round it. Where wide ones are asked fo
 the eight whole points around it has a square of two units: squares still have no common place.
 """
 
-from __future__ import annotations
-
 from collections.abc import Iterator
 from dataclasses import dataclass
 
@@ -38,7 +36,7 @@ class Hits:
     at: Points
     half: Numbers
 
-    def part(self, keeps: Numbers) -> Hits:
+    def part(self, keeps: Numbers) -> "Hits":
         """Some of them."""
         return Hits(self.step[keeps], Points(self.at.x[keeps], self.at.y[keeps]), self.half[keeps])
 

@@ -13,13 +13,13 @@ import numpy as np
 
 from .. import grid
 from ..geometry.flat_arrays import Numbers
+from ..geometry.shortest import decimals
 
 FINE = 2**16
 HALF, UNIT = FINE, 2 * FINE
 FARTHEST = 2**41  # a coordinate is no greater than this either way, in units
 SURE_DIGITS = grid.SURE_DIGITS
 FEW = (3, 8)  # digits after the point of most maps in metres and in degrees
-EXACT_PLACES = 27  # 10^27 is a long double
 
 
 class BeyondRange(Exception):
@@ -59,9 +59,11 @@ def floors(doubles: Numbers, ratio: Fraction) -> Numbers:
     digits, else by long doubles where half a last place either way does not matter, else by all digits."""
     found: Numbers = np.zeros(len(doubles), np.int64)
     left: Numbers = np.arange(len(doubles))
-    for places in FEW:
+    for places in FEW:  # of most maps one of them serves all coordinates
         numbers = np.rint(doubles[left] * 10.0**places)
         few = (np.abs(numbers) < 10**SURE_DIGITS) & (numbers / 10.0**places == doubles[left])
+        if few.all() and len(few) == len(doubles):
+            return floors_of_products(numbers.astype(np.int64), ratio / 10**places)
         found[left[few]] = floors_of_products(numbers[few].astype(np.int64), ratio / 10**places)
         left = left[~few]
     found[left] = floors_by_long(doubles[left], ratio)
@@ -85,42 +87,15 @@ def floors_by_long(doubles: Numbers, ratio: Fraction) -> Numbers:
 def floors_by_digits(doubles: Numbers, ratio: Fraction) -> Numbers:
     """The same by all digits, of many at once where long doubles tell them."""
     found: Numbers = np.zeros(len(doubles), np.int64)
-    left = np.flatnonzero(doubles)
-    size: Numbers = np.zeros(len(doubles), np.int64)  # digits before the point, or one more
-    size[left] = np.floor(np.log10(np.abs(doubles[left])) + 1e-9) + 1
-    none: Numbers = np.zeros(0, np.int64)
-    slow = [none]
-    for digits in range(SURE_DIGITS, grid.DOUBLE_DIGITS + 1):
-        more = [none]
-        for places in np.unique(digits - size[left]).tolist():
-            own = left[digits - size[left] == places]
-            numbers, are, may_be = decimals(doubles[own], places)
-            found[own[are]] = floors_of_products(numbers[are], ratio / Fraction(10) ** places)
-            slow.append(own[may_be & ~are])
-            more.append(own[~may_be])
-        left = np.concatenate(more)
-    left = np.concatenate([left, *slow])
+    own = decimals(doubles)
+    for places in np.unique(own.places[own.are]).tolist():
+        at = np.flatnonzero(own.are & (own.places == places))
+        found[at] = floors_of_products(own.numbers[at], ratio / 10**places)
+    left = np.flatnonzero(~own.are)
     top, bottom = ratio.numerator, ratio.denominator
     found[left] = [one.numerator * top // (one.denominator * bottom)
                    for one in map(grid.spelled, doubles[left].tolist())]
     return found
-
-
-def decimals(doubles: Numbers, places: int) -> tuple[Numbers, Numbers, Numbers]:
-    """The decimals of so many places that are next to doubles, of two the even one, as whole numbers below 2^63; which
-    of them surely print as their double, and which may do."""
-    power = np.longdouble(10) ** places
-    scaled = doubles.astype(np.longdouble) * power
-    numbers = np.rint(scaled)
-    off = np.abs(scaled - numbers)
-    mantissas, long = (np.frexp(doubles)[0] * 2.0**53).astype(np.int64), np.finfo(np.longdouble)
-    is_exact = np.abs(mantissas // (mantissas & -mantissas)) * 5.0**places < 2.0**long.nmant
-    slack = np.where(is_exact, 0, np.abs(scaled) * long.eps)
-    if not 0 <= places <= EXACT_PLACES:
-        slack[:] = np.inf
-    own = np.abs(doubles)
-    under, over = (np.spacing(one) * power / 2 for one in (np.nextafter(own, 0), own))
-    return numbers.astype(np.int64), (off < under - slack) & (off <= 0.5 - slack), off <= over + slack
 
 
 def floors_of_products(numbers: Numbers, ratio: Fraction) -> Numbers:
@@ -128,4 +103,6 @@ def floors_of_products(numbers: Numbers, ratio: Fraction) -> Numbers:
     top, bottom = ratio.numerator, ratio.denominator
     if top * bottom >= 2**62:
         return np.array([one * top // bottom for one in numbers.tolist()], np.int64)
+    if bottom == 1:
+        return numbers * top
     return numbers // bottom * top + numbers % bottom * top // bottom

@@ -1,7 +1,5 @@
 """Rings of places as rings of whole points, with the chains of their steps put in."""
 
-from __future__ import annotations
-
 from dataclasses import dataclass
 
 import numpy as np

@@ -6,8 +6,6 @@ is nearest to its exact height, half up. The bends are the same from either end,
 LONG.
 """
 
-from __future__ import annotations
-
 from dataclasses import dataclass
 
 import numpy as np

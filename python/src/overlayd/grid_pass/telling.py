@@ -1,7 +1,5 @@
 """The one line that says what the grid does to maps."""
 
-from __future__ import annotations
-
 from collections.abc import Sequence
 from fractions import Fraction
 

@@ -1,7 +1,5 @@
 """How questions are asked of the program, and how its areas are told in units of the maps."""
 
-from __future__ import annotations
-
 import dataclasses
 from collections.abc import Callable, Iterable, Iterator
 from dataclasses import dataclass, field
@@ -37,7 +35,7 @@ class Ask:
     size: int = PAIRS
     runs: Runs = run
 
-    def stage(self, begin: float, end: float, wants: Wants = Wants.NOTHING) -> Ask:
+    def stage(self, begin: float, end: float, wants: Wants = Wants.NOTHING) -> "Ask":
         """The same for a stage of the work, which ends when so much of the whole is done."""
         return dataclasses.replace(self, wants=wants, goes_on=lambda part: self.goes_on(begin + part * (end - begin)))
 
@@ -112,7 +110,7 @@ class Areas:
         """By how much that may be off."""
         return Fraction(self.sum_off(), 2**41) / self.factor**2
 
-    def part(self, places: Numbers) -> Areas:
+    def part(self, places: Numbers) -> "Areas":
         """Some of them."""
         return Areas(self.parts[places], self.off[places], self.factor)
 

@@ -1,7 +1,5 @@
 """Blocks of features and jobs, as docs/FORMAT.md lays them out: each holds what its jobs need, and no more."""
 
-from __future__ import annotations
-
 import enum
 from collections.abc import Iterator, Sequence
 from dataclasses import dataclass

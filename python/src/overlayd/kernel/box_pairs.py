@@ -4,8 +4,6 @@ Each box has a level, the least power of two that is no less than its width and 
 cells of a grid of that width. Two boxes are looked for on the grid of the greater level of the two; a pair that shares
 several cells is found in the one that has the least corner of the common part."""
 
-from __future__ import annotations
-
 from collections.abc import Iterator
 
 import numpy as np

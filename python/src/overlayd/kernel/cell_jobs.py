@@ -1,7 +1,5 @@
 """Jobs of one block, each an expression over some features by layers within the box of one feature or of several."""
 
-from __future__ import annotations
-
 from collections.abc import Callable, Iterator
 from dataclasses import dataclass
 
@@ -27,7 +25,7 @@ class Jobs:
     features: Numbers
     layers: Numbers
 
-    def part(self, begin: int, end: int) -> Jobs:
+    def part(self, begin: int, end: int) -> "Jobs":
         """Those from one up to another."""
         at = offsets(self.counts)
         own = slice(int(at[begin]), int(at[end]))

@@ -1,7 +1,5 @@
 """What is wrong in one map: which of its features overlap, and the gaps between them, with audits that close."""
 
-from __future__ import annotations
-
 from dataclasses import dataclass
 
 import numpy as np

@@ -1,7 +1,5 @@
 """Colours for the features of a map such that two that overlap differ: what has one colour is, even-odd, its union."""
 
-from __future__ import annotations
-
 import numpy as np
 
 from ..geometry.flat_arrays import Numbers

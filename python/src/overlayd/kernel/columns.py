@@ -3,8 +3,6 @@
 Doubles lie in them at any byte, so all numbers are read and written by views of the whole column that begin at byte 0
 to 7."""
 
-from __future__ import annotations
-
 from collections.abc import Iterator, Sequence
 from dataclasses import dataclass
 
@@ -30,7 +28,7 @@ class Column:
         found: bytes = self.data[self.at[number] : self.at[number + 1]].tobytes()
         return found
 
-    def part(self, places: Numbers) -> Column:
+    def part(self, places: Numbers) -> "Column":
         """Some of the shapes."""
         sizes = np.diff(self.at)[places]
         return Column(self.data[spans(self.at[:-1][places], sizes)], offsets(sizes))

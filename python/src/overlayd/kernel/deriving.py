@@ -1,7 +1,5 @@
 """What an expression over maps is, as one shape: `flood & built - parks` over any number of features."""
 
-from __future__ import annotations
-
 import re
 from collections.abc import Mapping
 from dataclasses import dataclass

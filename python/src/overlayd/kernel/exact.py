@@ -1,7 +1,5 @@
 """Exact areas of outlines whose corners are fractions."""
 
-from __future__ import annotations
-
 from fractions import Fraction
 
 import numpy as np

@@ -1,7 +1,5 @@
 """Features in whole numbers: rings of points in flat arrays, as blocks and pairs of boxes take them."""
 
-from __future__ import annotations
-
 from collections.abc import Sequence
 from dataclasses import dataclass
 
@@ -28,7 +26,7 @@ class Features:
         found: Numbers = np.diff(self.ring_at[self.feature_at])
         return found
 
-    def part(self, features: Numbers) -> Features:
+    def part(self, features: Numbers) -> "Features":
         """Some of the features."""
         rings = np.diff(self.feature_at)[features]
         own = spans(self.feature_at[:-1][features], rings)

@@ -3,8 +3,6 @@
 A layer is even-odd over its features. So it is their union where no two of them overlap, which its audit shows: its
 area is then the sum of theirs. Features in several layers are looked at by membership.py."""
 
-from __future__ import annotations
-
 from collections.abc import Sequence
 from dataclasses import dataclass
 

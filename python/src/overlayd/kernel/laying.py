@@ -1,7 +1,5 @@
 """Columns of shapes as features on one grid: all maps of a question in one pass, or a fault that says what would do."""
 
-from __future__ import annotations
-
 import enum
 from collections.abc import Sequence
 from dataclasses import dataclass
@@ -72,7 +70,7 @@ class Laid:
     collapsed: list[Numbers]
     moves: Moves = Moves()
 
-    def alone(self, number: int) -> Laid:
+    def alone(self, number: int) -> "Laid":
         """One of the maps."""
         return Laid([self.maps[number]], self.factor, self.line, [self.collapsed[number]], self.moves)
 

@@ -1,7 +1,5 @@
 """How long the borders of shapes are, and how wide shapes are by that."""
 
-from __future__ import annotations
-
 import numpy as np
 
 from ..geometry.flat_arrays import Numbers, after_of, owners

@@ -6,8 +6,6 @@ still get none are each in several layers, by mixed numbers. A place of such a f
 layers are even there: by chance one place in 2 to the number of layers. So the program is asked what each of them has
 that no layer has, which must be nothing; else it gets another number."""
 
-from __future__ import annotations
-
 from dataclasses import dataclass
 
 import numpy as np
@@ -40,7 +38,7 @@ class Members:
         """The number after the last layer's."""
         return int(self.layer.max(initial=-1)) + 1
 
-    def after(self, begun: int) -> Members:
+    def after(self, begun: int) -> "Members":
         """The same in layers after so many."""
         return Members(self.feature, self.layer + begun, self.several)
 

@@ -15,7 +15,7 @@ from .columns import Column, columns_joined
 from .exact import exact_areas
 from .features import Features
 from .laying import Laid, lay
-from .rows import PAIR, Relation
+from .rows import PAIR, Relation, rows_joined, taken
 
 
 @dataclass(frozen=True)
@@ -51,7 +51,7 @@ class Overlay:
         """Some of the rows."""
         own = None if self.outlines is None else self.outlines.part(places)
         exact = None if self.exact is None else self.exact[places]
-        return Overlay(self.pairs[places], self.rows[places], own, self.laid, exact)
+        return Overlay(self.pairs[places], taken(self.rows, places), own, self.laid, exact)
 
 
 def overlay(a: Column, b: Column, ask: Ask) -> Overlay:
@@ -79,7 +79,7 @@ def answered(asked: Numbers, blocks: Iterable[bytes], laid: Laid, ask: Ask) -> O
     exact = [np.zeros(0, object)]
     for found in ask.rows(blocks, -(-len(asked) // ask.size)):
         own = np.flatnonzero((found.rows["relation"] != Relation.DISJOINT) | (found.rows["fault"] > 0))
-        rows.append(found.rows[own])
+        rows.append(taken(found.rows, own))
         live.append(own + at)
         at += len(found.rows)
         if ask.wants & Wants.OUTLINES:
@@ -88,4 +88,4 @@ def answered(asked: Numbers, blocks: Iterable[bytes], laid: Laid, ask: Ask) -> O
             exact.append(exact_areas(found)[own])
     column = columns_joined(outlines) if ask.wants & Wants.OUTLINES else None
     twice = np.concatenate(exact) if ask.wants & Wants.FRACTIONS else None
-    return Overlay(asked[np.concatenate(live)], np.concatenate(rows), column, laid, twice)
+    return Overlay(asked[np.concatenate(live)], rows_joined(rows), column, laid, twice)

@@ -16,7 +16,7 @@ from .features import Features, joined
 from .laying import Laid
 from .membership import Members, members_of, overlapping
 from .overlaying import overlay_within, pairs_in
-from .rows import CELLS
+from .rows import CELLS, rows_joined, taken
 from .spelling import name_of
 
 HEAD = 9  # numbers of four bytes of a job before its members: its core, and how many these are
@@ -42,7 +42,7 @@ class Alone:
     def part(self, places: Numbers) -> Alone:
         """Some of them."""
         own = None if self.outlines is None else self.outlines.part(places)
-        return Alone(self.features[places], self.rows[places], own, self.laid)
+        return Alone(self.features[places], taken(self.rows, places), own, self.laid)
 
 
 def layers_of_map(laid: Laid, number: int, ask: Ask) -> Members:
@@ -69,7 +69,7 @@ def alone(laid: Laid, number: int, other: Members, ask: Ask, is_shared: bool = F
         if ask.wants & Wants.OUTLINES:
             outlines.append(found.outlines(laid.factor))
     column = columns_joined(outlines) if ask.wants & Wants.OUTLINES else None
-    whole = Alone(live, np.concatenate(rows), column, laid)
+    whole = Alone(live, rows_joined(rows), column, laid)
     return whole.part(np.flatnonzero((whole.rows["pieces"] > 0) | (whole.rows["fault"] > 0)))
 
 

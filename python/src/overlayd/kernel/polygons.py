@@ -1,7 +1,5 @@
 """The polygons of a row's outline, each an outer ring with its holes, as shapes of their own with their areas."""
 
-from __future__ import annotations
-
 from dataclasses import dataclass
 from fractions import Fraction
 
@@ -22,7 +20,7 @@ class Polygons:
     areas: Numbers
     boxes: Numbers
 
-    def part(self, places: Numbers) -> Polygons:
+    def part(self, places: Numbers) -> "Polygons":
         """Some of them."""
         return Polygons(self.outlines.part(places), self.areas[places], self.boxes[places])
 

@@ -3,8 +3,6 @@
 For all features at once, as many rounds as a feature has rings and polygons; of the last few features, which have more,
 one by one."""
 
-from __future__ import annotations
-
 import enum
 import struct
 from dataclasses import dataclass

@@ -3,6 +3,7 @@
 from __future__ import annotations
 
 import enum
+from collections.abc import Sequence
 from dataclasses import dataclass
 from fractions import Fraction
 
@@ -24,6 +25,18 @@ CELLS = np.dtype([(name, "<u4") for name in ("fault", "pieces", "passes", "rings
 POINT = np.dtype([("place", "<u4")])
 KINDS = {Kind.PAIR: PAIR, Kind.CELLS: CELLS, Kind.LOCATE: POINT}
 RINGS = np.dtype([(name, "<u4") for name in ("row", "outer", "corners", "nothing")])
+
+
+def taken(rows: Numbers, places: Numbers) -> Numbers:
+    """Some rows: by their bytes, as numpy takes rows that have fields field by field."""
+    found: Numbers = rows.view(f"V{rows.itemsize}")[places].view(rows.dtype)
+    return found
+
+
+def rows_joined(parts: Sequence[Numbers]) -> Numbers:
+    """The rows of several lists in one, likewise."""
+    found: Numbers = np.concatenate([one.view(f"V{one.itemsize}") for one in parts]).view(parts[0].dtype)
+    return found
 
 
 class Relation(enum.IntEnum):

@@ -4,8 +4,6 @@ The process ends with the one that began it: its input is a pipe, at whose end i
 has done the block in hand. No signal of the system's that belongs to a thread is asked for, so it outlives the thread
 that began it. A thread that reads rows keeps Python from ending, as any does that is no daemon."""
 
-from __future__ import annotations
-
 import collections
 import io
 import subprocess
@@ -98,7 +96,7 @@ def tried(program: str, block: bytes, goes_on: GoesOn) -> Rows:
     raise AssertionError
 
 
-def finish(process: subprocess.Popen[bytes], fed: Feeding, said: Said, watch: Watch) -> None:
+def finish(process: subprocess.Popen[bytes], fed: "Feeding", said: "Said", watch: "Watch") -> None:
     """Says why replies have ended."""
     if watch.fault is not None:
         raise watch.fault

@@ -3,8 +3,6 @@
 Of either order of bytes, with Z or M or both, which are left out, in the standard's form and in PostGIS's with a
 system's number. A shape of another kind, as a curve or a point, has no rings and is named."""
 
-from __future__ import annotations
-
 from dataclasses import dataclass
 
 import numpy as np

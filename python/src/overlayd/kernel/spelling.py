@@ -1,7 +1,5 @@
 """What the layers of an expression are called."""
 
-from __future__ import annotations
-
 import string
 
 LAYERS = 29  # that an expression may name

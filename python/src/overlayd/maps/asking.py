@@ -3,8 +3,6 @@
 Without a folder blocks go to programs at once. With --work or --dask each block is a task of a folder, and each reply
 its result; each part of a question is a stage of its own, in a folder 1, 2 and so on."""
 
-from __future__ import annotations
-
 import contextlib
 import pathlib
 import tempfile

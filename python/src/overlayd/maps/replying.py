@@ -1,7 +1,5 @@
 """Does a task that comes as bytes: a block, to which a program replies."""
 
-from __future__ import annotations
-
 import contextlib
 import subprocess
 from dataclasses import dataclass

@@ -1,8 +1,6 @@
 """What a text prints besides, and does not count, as it is proved: laws, and what each value of a
 type with a model keeps to."""
 
-from __future__ import annotations
-
 import dataclasses
 import re
 import textwrap

@@ -2,8 +2,6 @@
 
 A key names a definition by its crate, its module and itself; ('', crate, type) is a type or a trait of the sources."""
 
-from __future__ import annotations
-
 import dataclasses
 import itertools
 import pathlib

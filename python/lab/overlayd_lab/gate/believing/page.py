@@ -1,7 +1,5 @@
 """Writes docs/BELIEVE.md: a table of calls, the link words between them, and what each call rests on."""
 
-from __future__ import annotations
-
 import collections
 import dataclasses
 import functools

@@ -1,7 +1,5 @@
 """Reads sources (.rt): which types they name, and the fields of these."""
 
-from __future__ import annotations
-
 import functools
 import re
 

@@ -1,7 +1,5 @@
 """Reads files of definitions (.antt): their definitions, their constructors, and what they import."""
 
-from __future__ import annotations
-
 import dataclasses
 import re
 

@@ -1,8 +1,6 @@
 """Writes the text of a row: its contracts, and the definitions that they rest on, in the order in
 which they are read."""
 
-from __future__ import annotations
-
 import re
 import textwrap
 
@@ -36,7 +34,7 @@ def text(reading: Reading, title: str) -> str:
     return "\n".join([*lines, *index(lines, body.keys)])
 
 
-def head(reading: Reading, title: str, body: Body) -> list[str]:
+def head(reading: Reading, title: str, body: "Body") -> list[str]:
     """The first lines of a text: how it is read, what is left out, and which names have two meanings."""
     house = reading.house
     row, reach = reading.row_of(title), reading.row(title)[1]
