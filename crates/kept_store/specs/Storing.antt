@@ -96,7 +96,8 @@ pub record IsFollowed {D : Type 0} (g : Ghosts D) (was : History) (old : Flusher
   pub no_less : old.commit.root.version ≤ new.commit.root.version
   pub moments : LeavesOnly g old.commit.disk new.commit.disk (IsFileIn now old.commit.root.version)
 
--- a number is stored of a log: the first store, followed to that log, holds it
+-- a number is stored of a log: a store of the first one's name, to which that was followed by that log, holds it (that
+-- it is this run's store is what its receipt says, IsOwnReceipt)
 pub record IsStored {D : Type 0} (g : Ghosts D) (was : History) (old : Flusher D g) (log : List Entry) (number : ℕ) : Type 0 where
   pub store : Flusher D g
   pub followed : IsFollowed g was old (history_of log) store

@@ -4,7 +4,8 @@ use Rattle.overlay_terms.specs.Batches.{Batch}
 use Rattle.server_session.specs.Asking.{ScriptAsksFor}
 use Rattle.overlay_server.specs.Given.{Given}
 
--- the session of a place, counted from 0, is asked for these commands by the script that it is given
+-- the session of a place, counted from 0, is asked for these commands by the script that it is given (also past the
+-- most bytes that its lines are read to)
 abbrev pub IsAskedAt : List Given → ℕ → Batch → Type 0
 IsAskedAt [] place commands = ⊥
 IsAskedAt (given ∷ others) zero commands = ScriptAsksFor given.script commands

@@ -46,7 +46,7 @@ pub fn answer<J: BookName, S: Wait + Drop, Q: Wait + Threads + Sync>(
     line: &[u8],
 ) -> Option<LineReply>
     requires book { me.old.book ≡ J.book }
-    // What the line asks for may be submitted, and nothing else, also in a call that never returns.
+    // What the line asks for may be submitted. Of nothing else can this be shown, also in a call that never returns.
     requires asked { MayAskAtLine (J.asked me.old.session) waiting.old line.now }
     ensures takes { TakesTurn (store_of J.stored J.failed (has_store shared.now)) me.old waiting.old line.now me.new waiting.new (fault_text result) }
     ensures ends { EndsTurn waiting.old line.now me.old me.new result }

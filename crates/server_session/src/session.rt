@@ -67,7 +67,7 @@ pub fn session_run_within<
     writer: &mut W,
 ) -> SessionEnd
     requires book { me.old.book ≡ J.book }
-    // What the script asks for may be submitted, and nothing else, also in a call that never returns.
+    // What the script asks for may be submitted. Of nothing else can this be shown, also in a call that never returns.
     requires asked { MayAskAll (J.asked me.old.session) (R.remaining reader.old) }
     requires countable { most < 2 ^ 63 }
     requires reported { MayReport J.stored J.failed (has_store shared.now) me.old W.may_report }

@@ -69,7 +69,8 @@ impl SessionState {
         writer: &mut W,
     ) -> Result<(), CommandFault>
         requires book { me.old.book ≡ J.book }
-        // What the turns that the bytes end ask for may be submitted, and nothing else, also in a call that never returns.
+        // What the turns that the bytes end ask for may be submitted. Of nothing else can this be shown, also in a call
+        // that never returns.
         requires asked { MayAskNext (J.asked me.old.session) self.old bytes.now }
         requires going { has_ended self.old ≡ false }
         requires reported { MayReport J.stored J.failed (has_store shared.now) me.old W.may_report }

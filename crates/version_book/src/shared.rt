@@ -214,9 +214,9 @@ impl<J: BookName, R: Wait + Drop> Shared<J, R> {
     /// From now on commands are refused, no job is handed out, and no call waits for long. Who has the right to close the
     /// book alone can call it, whether that call returns or not.
     // It has no clause: it gives nothing, and that the book closes is said under the lock, by `begin_close` there.
-    pub fn begin_close<W: Wait>(&self, rt: &W, _closer: &mut Closer<J>) {
+    pub fn begin_close<W: Wait>(&self, rt: &W, closer: &mut Closer<J>) {
         let mut turn = self.turns.next(rt, TurnKind::Closed);
-        begin_close(&mut turn.book);
+        begin_close(&mut turn.book, closer);
     }
 
     /// Ends the book once the threads that share it have returned. Were one of these tokens not level with it, which

@@ -6,6 +6,7 @@ ghost use Rattle.version_book.specs.BookState.{IsAfterClosing};
 ghost use Rattle.book_lock.specs.Steps.{HasAllOf, IsLevel};
 ghost use Rattle.book_lock.specs.Heard.{HasHeard};
 
+use crate::closer::Closer;
 use crate::locked_book::LockedBook;
 use book_history::seen_log::BookName;
 use book_lock::closed::ClosedBook;
@@ -14,8 +15,11 @@ use book_lock::reporter::Reporter;
 use book_lock::session::Session;
 use std::sync::Wait;
 
-/// The book closes from now on.
-pub(crate) fn begin_close<J: BookName, R: Wait + Drop>(locked: &mut LockedBook<J, R>)
+/// The book closes from now on. Who has the right to close it alone can call this.
+pub(crate) fn begin_close<J: BookName, R: Wait + Drop>(
+    locked: &mut LockedBook<J, R>,
+    _closer: &mut Closer<J>,
+)
     ensures log { locked.new.log ≡ locked.old.log }
     ensures state { IsAfterClosing locked.old.state locked.new.state }
 {
