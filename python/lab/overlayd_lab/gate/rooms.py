@@ -53,9 +53,10 @@ DROPS = ("versions::Version", "book_history::Entry", "book_history::LogWord", "b
 LETS_GO = re.compile(r"\bD: [^,>={]*\bDrop\b")
 # A crate that machines of tests alone are in.
 MACHINES = "test_machines"
-# Crates that have a store open, and the bounds by which a call may end otherwise than by returning. A clause binds what
-# returns: without these bounds each of their calls does, and no code above them has a store, or the disk of one, open.
-OPEN = ("root_store", "flush_core", "overlay_engine", "kept_store")
+# Crates that have a store or its disk open, and the bounds by which a call may end otherwise than by returning. A
+# clause binds what returns: without these bounds each of their calls does, and no code above them has a store, or the
+# disk of one, open.
+OPEN = ("disk_model", "root_reading", "commit_plan", "root_store", "flush_core", "overlay_engine", "kept_store")
 STAYS = re.compile(r"\b(?:Wait|Abort)\b")
 # What opens a disk that a store gave up: tests alone have it. It stands in its own file besides.
 OPENER = re.compile(r"\bKey\b")
