@@ -113,5 +113,5 @@ class WithProgram(InFolder):
         text = script if isinstance(script, bytes) else script.encode()
         done = subprocess.run([self.program, "--store", made, "--create"], input=text, capture_output=True, check=True,
                               timeout=SECONDS)
-        self.assertEqual([line for line in done.stdout.splitlines() if line.startswith((b"error", b"refused"))], [])
+        assert [line for line in done.stdout.splitlines() if line.startswith((b"error", b"refused"))] == []
         return made

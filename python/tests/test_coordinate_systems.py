@@ -52,7 +52,7 @@ class WithSystems(WithGdal):
         """What a command says on standard error."""
         done = subprocess.run([*OVERLAY, tool, *map(str, words)], capture_output=True, text=True,
                               timeout=SECONDS, check=False)
-        self.assertEqual(done.returncode, 0, done.stderr)
+        assert done.returncode == 0, done.stderr
         return done.stderr
 
     def shapefile(self, system: str | None, name: str = "map", end: str = ".prj") -> pathlib.Path:
@@ -71,14 +71,14 @@ class WithSystems(WithGdal):
         """The system in the scale of a script, and what was said."""
         made = self.folder / "out.txt"
         status, _, errors = outcome(to_script, *given, "--factor", 10, "--output", made)
-        self.assertEqual(status, 0, errors)
+        assert status == 0, errors
         return json.loads(made.with_suffix(".scale.json").read_text())["crs"], errors
 
     def written(self, end: str) -> Any:
         """The system of what overlay export writes of that script, as GDAL reads it."""
         path = self.folder / f"written{end}"
         words = ["--store", self.folder / "out.txt", "--program", self.model(), "--output", path]
-        self.assertEqual(outcome(to_geojson, *words)[:2], (0, ""))
+        assert outcome(to_geojson, *words)[:2] == (0, "")
         return self.system(path)
 
     def system(self, path: pathlib.Path) -> Any:
@@ -94,7 +94,7 @@ class WithSystems(WithGdal):
         words = [first, second, "--factor", 10, "--pieces", path, "--program", Programs.features, "--jobs", 1,
                  "--no-audit"]
         status, _, errors = outcome(pieces, *words)
-        self.assertEqual(status, 0, errors)
+        assert status == 0, errors
         return self.system(path)
 
 
@@ -102,86 +102,86 @@ class Named(WithSystems):
     def test_usual_systems_as_esri_writes_them_have_their_names(self) -> None:
         for name in USUAL:
             with self.subTest(name):
-                self.assertEqual(self.script(self.shapefile(text_of(name)))[0], name)
+                assert self.script(self.shapefile(text_of(name)))[0] == name
 
     def test_longitude_and_latitude_of_wgs84_are_crs84_by_whatever_name(self) -> None:
         for name in ("EPSG:4326", "OGC:CRS84", "+proj=longlat +datum=WGS84 +no_defs"):
             for form in ("WKT1_ESRI", "WKT1_GDAL", "WKT2_2019"):
                 with self.subTest(name, form=form):
-                    self.assertEqual(self.script(self.shapefile(text_of(name, form)))[0], "OGC:CRS84")
+                    assert self.script(self.shapefile(text_of(name, form)))[0] == "OGC:CRS84"
 
     def test_a_name_of_its_own_counts_where_the_system_is_that_one(self) -> None:
         for name in ("EPSG:31468", "EPSG:30169", "EPSG:25832", "ESRI:102003"):
             for form in ("WKT1_GDAL", "WKT2_2019"):
                 with self.subTest(name, form=form):
-                    self.assertEqual(self.script(self.shapefile(text_of(name, form)))[0], name)
+                    assert self.script(self.shapefile(text_of(name, form)))[0] == name
         lied = text_of("EPSG:25832", "WKT1_GDAL").replace('"false_easting",500000', '"false_easting",400000')
         ours = text_of("EPSG:25832", "WKT2_2019").replace('ID["EPSG",25832]',
                                                           'ID["OURS",7]').replace("0.9996,", "0.9997,")
         for text in (lied, ours):
             found = self.script(self.shapefile(text))[0]
-            self.assertTrue(found and found.startswith("PROJCRS["), found)
+            assert found and found.startswith("PROJCRS["), found
 
     def test_a_zipped_shapefile_and_a_prj_in_capitals(self) -> None:
         path = self.shapefile(text_of("EPSG:2154"), "parcels", ".PRJ")
-        self.assertEqual(self.script(path)[0], "EPSG:2154")
+        assert self.script(path)[0] == "EPSG:2154"
         archive = self.folder / "both.zip"
         other = self.shapefile(text_of("EPSG:2056"), "zones")
         with zipfile.ZipFile(archive, "w") as zipped:
             for one in (*self.folder.glob("parcels.*"), *self.folder.glob("zones.*")):
                 zipped.write(one, one.name)
         for layer, name in (("parcels", "EPSG:2154"), (other.stem, "EPSG:2056")):
-            self.assertEqual(self.script(archive, "--source-layer", layer)[0], name)
+            assert self.script(archive, "--source-layer", layer)[0] == name
 
     def test_other_forms(self) -> None:
         for name in ("EPSG:25832", "ESRI:102003", "EPSG:30169"):
             source = self.shapefile(text_of(name, "WKT1_GDAL"))
             for end in (".gpkg", ".fgb", ".gml"):
                 with self.subTest(name, end=end):
-                    self.assertEqual(self.script(self.made(f"other{end}", str(source), "-a_srs", name))[0], name)
+                    assert self.script(self.made(f"other{end}", str(source), "-a_srs", name))[0] == name
                 self.folder.joinpath(f"other{end}").unlink()
             self.script(source)
-            self.assertEqual(coordinate_systems.called(self.written(".gpkg")), name)
-            self.assertEqual(coordinate_systems.called(self.written(".geojson")), name)
-            self.assertEqual(self.script(self.folder / "written.geojson")[0], name)
+            assert coordinate_systems.called(self.written(".gpkg")) == name
+            assert coordinate_systems.called(self.written(".geojson")) == name
+            assert self.script(self.folder / "written.geojson")[0] == name
 
 
 class Nameless(WithSystems):
     def test_a_system_that_resembles_one_with_a_name_has_none(self) -> None:
         texts = {"Olinda": OLINDA} | {name: text_of(system) for name, system in NAMELESS.items()}
-        self.assertEqual(len(texts), 9)
+        assert len(texts) == 9
         for name, text in texts.items():
             with self.subTest(name):
                 found, errors = self.script(self.shapefile(text))
-                self.assertTrue(found and coordinate_systems.is_text(found), found)
-                self.assertNotIn("unknown, as", errors)
-                self.assertTrue(coordinate_systems.is_same(self.written(".gpkg"), coordinate_systems.parsed(found)))
+                assert found and coordinate_systems.is_text(found), found
+                assert "unknown, as" not in errors
+                assert coordinate_systems.is_same(self.written(".gpkg"), coordinate_systems.parsed(found))
 
     def test_its_text_goes_into_whatever_is_written_and_comes_back(self) -> None:
         found, _ = self.script(self.shapefile(text_of(NAMELESS["a city"])))
         for end in (".geojson", ".gpkg", ".fgb"):
-            self.assertTrue(coordinate_systems.is_same(self.written(end), coordinate_systems.parsed(found)), end)
+            assert coordinate_systems.is_same(self.written(end), coordinate_systems.parsed(found)), end
             again, _ = self.script(self.folder / f"written{end}")
-            self.assertTrue(coordinate_systems.are_one(again, found), again)
+            assert coordinate_systems.are_one(again, found), again
 
     def test_pieces_have_the_system_of_their_maps(self) -> None:
         first = self.shapefile(text_of(NAMELESS["a city"]), "first")
         second = self.made("second.gpkg", str(first), "-a_srs", NAMELESS["a city"])
         for end in (".gpkg", ".geojson"):
             found = self.overlay(first, second, end)
-            self.assertTrue(coordinate_systems.are_one(found.ExportToWkt(), text_of(NAMELESS["a city"])), found)
+            assert coordinate_systems.are_one(found.ExportToWkt(), text_of(NAMELESS["a city"])), found
 
     def test_maps_of_different_systems_are_refused_by_their_names(self) -> None:
         first = self.shapefile(OLINDA, "first")
         second = self.shapefile(text_of("EPSG:4674"), "second")
         status, _, errors = outcome(pairs, first, second, "--factor", 1, "--program", self.model())
-        self.assertEqual((status, errors.splitlines()[-1]), (
+        assert (status, errors.splitlines()[-1]) == (
             2, f'{first} has coordinates of "GRS 1980(IUGG, 1980)", {second} of EPSG:4674: bring one to those of the '
-               "other, as by ogr2ogr -t_srs"))
+               "other, as by ogr2ogr -t_srs")
         status, _, errors = outcome(to_script, first, second)
-        self.assertEqual((status, errors), (2, (
+        assert (status, errors) == (2, (
             'files of different coordinates: EPSG:4674, "GRS 1980(IUGG, 1980)"; bring them to one, as by ogr2ogr '
-            "-t_srs, or say by --crs which one all of them have\n")))
+            "-t_srs, or say by --crs which one all of them have\n"))
 
 
 class Units(WithSystems):
@@ -190,13 +190,13 @@ class Units(WithSystems):
             for system in systems:
                 file = self.shapefile(text_of(system))
                 self.ran("import", file, "--factor", 10, "--output", self.folder / "out.txt")
-                self.assertEqual(json.loads((self.folder / "out.scale.json").read_text())["unit"], unit, system)
+                assert json.loads((self.folder / "out.scale.json").read_text())["unit"] == unit, system
                 if Programs.features:
                     told = self.ran("check", file, "--factor", 10, "--program", Programs.features)
                     several = {"US survey foot": "US survey feet"}.get(unit, f"{unit}s")
-                    self.assertIn(f"areas are in square {several}, widths in {several}\n", told, system)
+                    assert f"areas are in square {several}, widths in {several}\n" in told, system
         self.ran("import", self.shapefile(None), "--factor", 10, "--output", self.folder / "out.txt")
-        self.assertEqual(json.loads((self.folder / "out.scale.json").read_text())["unit"], "1")
+        assert json.loads((self.folder / "out.scale.json").read_text())["unit"] == "1"
 
     @pytest.mark.features
     def test_square_metres_are_given_of_metres_alone_and_nothing_is_written_else(self) -> None:
@@ -210,9 +210,9 @@ class Units(WithSystems):
                 told = (f"no areas in square metres: the unit of the coordinates is {unit}; bring the maps to a system "
                         "in metres first, as by ogr2ogr -t_srs EPSG:6933, whose areas are true")
                 if unit == "metre":
-                    self.assertEqual((status, table.exists()), (0, True), errors)
+                    assert (status, table.exists()) == (0, True), errors
                 else:
-                    self.assertEqual((status, output, errors.splitlines()[-1], table.exists()), (2, "", told, False))
+                    assert (status, output, errors.splitlines()[-1], table.exists()) == (2, "", told, False)
                 table.unlink(missing_ok=True)
 
 
@@ -222,33 +222,33 @@ class Unknown(WithSystems):
             with self.subTest(text):
                 path = self.shapefile(text)
                 found, errors = self.script(path)
-                self.assertIsNone(found)
-                self.assertIn("the coordinate system is unknown, as the file does not say it: --crs names it", errors)
+                assert found is None
+                assert "the coordinate system is unknown, as the file does not say it: --crs names it" in errors
         for end in (".geojson", ".gpkg", ".fgb"):
-            self.assertTrue(self.written(end).IsLocal(), end)
+            assert self.written(end).IsLocal(), end
             again, errors = self.script(self.folder / f"written{end}")
-            self.assertEqual((again, "the coordinate system is unknown" in errors), (None, True))
-        self.assertEqual(self.script(path, "--crs", "EPSG:25832")[0], "EPSG:25832")
+            assert (again, "the coordinate system is unknown" in errors) == (None, True)
+        assert self.script(path, "--crs", "EPSG:25832")[0] == "EPSG:25832"
 
     def test_pieces_of_such_maps_are_of_a_plane(self) -> None:
         path = self.shapefile(None)
         for end in (".geojson", ".gpkg"):
-            self.assertTrue(self.overlay(path, path, end).IsLocal(), end)
+            assert self.overlay(path, path, end).IsLocal(), end
         words = [path, path, "--factor", 1, "--program", Programs.features, "--jobs", 1]
         for text in (None, "PROJCS[broken"):
             status, _, errors = outcome(pairs, self.shapefile(text), *words[1:])
             told = f"{path}: its coordinate system is unknown, as the file does not say it\n"
-            self.assertEqual((status, told in errors), (0, True), errors)
+            assert (status, told in errors) == (0, True), errors
         degrees = self.folder / "map.geojson"  # what GeoJSON without a name has stays
-        self.assertEqual(coordinate_systems.called(self.overlay(degrees, degrees, ".geojson")), "OGC:CRS84")
-        self.assertNotIn('"crs"', (self.folder / "pieces.geojson").read_text())
+        assert coordinate_systems.called(self.overlay(degrees, degrees, ".geojson")) == "OGC:CRS84"
+        assert '"crs"' not in (self.folder / "pieces.geojson").read_text()
 
     def test_geojson_without_a_name_has_degrees(self) -> None:
         self.shapefile(None)
         found, errors = self.script(self.folder / "map.geojson")
-        self.assertEqual((found, "unknown" in errors), ("OGC:CRS84", False))
-        self.assertEqual(coordinate_systems.called(self.written(".geojson")), "OGC:CRS84")
-        self.assertNotIn('"crs"', (self.folder / "written.geojson").read_text())
+        assert (found, "unknown" in errors) == ("OGC:CRS84", False)
+        assert coordinate_systems.called(self.written(".geojson")) == "OGC:CRS84"
+        assert '"crs"' not in (self.folder / "written.geojson").read_text()
 
     def test_a_name_in_geojson_that_is_none_is_unknown(self) -> None:
         self.shapefile(None)
@@ -258,4 +258,4 @@ class Unknown(WithSystems):
             crs = {"type": "name", "properties": {"name": name}}
             file = self.file("named.geojson",
                              json.dumps({"type": "FeatureCollection", "crs": crs, "features": [value]}))
-            self.assertEqual(self.script(file)[0], wanted, name)
+            assert self.script(file)[0] == wanted, name

@@ -48,27 +48,27 @@ class ManyCorners(WithProgram):
                 x, y = map(Fraction, line.split())
                 rings[-1].append((x, y))
         corners = {corner for ring in rings for corner in ring}
-        self.assertGreater(sum(x.denominator > 1 or y.denominator > 1 for x, y in corners), 1500)
+        assert sum(x.denominator > 1 or y.denominator > 1 for x, y in corners) > 1500
         self.area = sum((area_twice(ring) for ring in rings), Fraction(0)) / 2
 
     def test_the_areas_are_rounded_and_exact_where_asked_for(self) -> None:
         status, output, errors = outcome(to_rings, *self.words, "--areas")
         rounded = scales.decimals(self.area, 6)
-        self.assertEqual((status, output.splitlines()[-1]), (0, f"area {rounded}"), errors)
-        self.assertIn("/", output)  # of small rings the fraction is short
+        assert (status, output.splitlines()[-1]) == (0, f"area {rounded}"), errors
+        assert "/" in output
         longest = max(sum(map(str.isdigit, line.split()[-1])) for line in output.splitlines() if "/" in line)
-        self.assertLessEqual(longest, 60)
+        assert longest <= 60
         exact = outcome(to_rings, *self.words, "--areas", "--exact")[1].splitlines()[-1].split()
-        self.assertEqual((exact[:2], read_fraction(exact[2])), (["area", rounded], self.area))
-        self.assertGreater(len(exact[2]), 4300)
+        assert (exact[:2], read_fraction(exact[2])) == (["area", rounded], self.area)
+        assert len(exact[2]) > 4300
 
     def test_the_features_too(self) -> None:
         status, output, errors = outcome(to_geojson, *self.words)
         properties = json.loads(output, parse_float=str)["features"][0]["properties"]
-        self.assertEqual((status, list(properties)), (0, ["layer", "expression", "version", "area"]), errors)
-        self.assertEqual(properties["area"], scales.decimals(self.area, 12))
+        assert (status, list(properties)) == (0, ["layer", "expression", "version", "area"]), errors
+        assert properties["area"] == scales.decimals(self.area, 12)
         output = outcome(to_geojson, *self.words, "--exact")[1]
-        self.assertEqual(read_fraction(json.loads(output)["features"][0]["properties"]["area_exact"]), self.area)
+        assert read_fraction(json.loads(output)["features"][0]["properties"]["area_exact"]) == self.area
 
 
 class Sums(unittest.TestCase):
@@ -77,16 +77,16 @@ class Sums(unittest.TestCase):
         for count in (0, 1, 2, 3, 50):
             terms = [(source.randrange(-99, 99), source.randrange(1, 30)) for _ in range(count)]
             wanted = sum((Fraction(*term) for term in terms), Fraction(0))
-            self.assertEqual(areas.exact_sum(terms), wanted)
-            self.assertLessEqual(0 * wanted, wanted - areas.near_sum(terms))
-            self.assertLess(wanted - areas.near_sum(terms), Fraction(count + 1, 1 << areas.BITS))
+            assert areas.exact_sum(terms) == wanted
+            assert 0 * wanted <= wanted - areas.near_sum(terms)
+            assert wanted - areas.near_sum(terms) < Fraction(count + 1, 1 << areas.BITS)
 
     def test_fractions_of_up_to_60_digits_are_short(self) -> None:
         for number, is_short in ((Fraction(10**59), True), (Fraction(10**60), False), (Fraction(10**5000), False),
                                  (Fraction(10**29, 10**29 + 1), True), (Fraction(-(10**30), 3 * 10**29 + 1), False)):
-            self.assertEqual(areas.is_short(number), is_short)
+            assert areas.is_short(number) == is_short
 
     def test_all_digits_are_spelled_and_the_limit_stands_again(self) -> None:
         before = sys.get_int_max_str_digits()
-        self.assertEqual(len(scales.spelled_exactly(Fraction(10**9999, 3))), 10002)
-        self.assertEqual(sys.get_int_max_str_digits(), before)
+        assert len(scales.spelled_exactly(Fraction(10**9999, 3))) == 10002
+        assert sys.get_int_max_str_digits() == before

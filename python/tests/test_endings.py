@@ -54,28 +54,28 @@ class Endings(InFolder):
             text = f"{begin} 2> {self.folder}/errors | head -c 10 > {self.folder}/output; echo ${{PIPESTATUS[0]}}"
             done = subprocess.run(["bash", "-c", text], capture_output=True, text=True, check=True, timeout=SECONDS)
             told = (self.folder / "errors").read_text()
-            self.assertEqual((done.stdout, "Broken" in told, "Traceback" in told), ("1\n", False, False), name + told)
+            assert (done.stdout, "Broken" in told, "Traceback" in told) == ("1\n", False, False), name + told
 
     def test_output_is_kept_where_notes_cannot_be_told(self) -> None:
         square = self.file("a.wkt", SQUARE + "\n")
         plain = subprocess.run([*OVERLAY, "import", str(square)], capture_output=True, check=True,
                                timeout=SECONDS)
-        self.assertTrue(plain.stdout and plain.stderr)
+        assert plain.stdout and plain.stderr
         for stream, status in (("2>/dev/full", 1), ("2>&-", 0)):
             call = shlex.join([*OVERLAY, "import", str(square)])
             done = subprocess.run(["bash", "-c", f"{call} {stream}"], stdout=subprocess.PIPE, check=False,
                                   timeout=SECONDS)
-            self.assertEqual((done.returncode, done.stdout), (status, plain.stdout), stream)
+            assert (done.returncode, done.stdout) == (status, plain.stdout), stream
 
     def test_a_full_device(self) -> None:
         for name, *words in [*self.calls(), ["which", "--help"]]:
             with open("/dev/full", "w", encoding="utf-8") as full:
                 done = subprocess.run([*OVERLAY, name, *words], stdout=full, stderr=subprocess.PIPE,
                                       text=True, check=False, timeout=SECONDS)
-            self.assertEqual(done.returncode, 1, name)
-            self.assertEqual(done.stderr.splitlines()[-1], f"overlay {name}: standard output: No space left on device")
-            self.assertNotIn("Traceback", done.stderr)
-            self.assertNotIn("Exception", done.stderr)
+            assert done.returncode == 1, name
+            assert done.stderr.splitlines()[-1] == f"overlay {name}: standard output: No space left on device"
+            assert "Traceback" not in done.stderr
+            assert "Exception" not in done.stderr
 
     def test_both_streams(self) -> None:
         name, *words = self.calls()[1]
@@ -83,7 +83,7 @@ class Endings(InFolder):
         for streams, status in ((">/dev/full 2>&1", 1), (">&- 2>/dev/null", 1), (">/dev/null", 0)):
             done = subprocess.run(["bash", "-c", f"{call} {streams}"], capture_output=True, text=True, check=False,
                                   timeout=SECONDS)
-            self.assertEqual((done.returncode, done.stdout, done.stderr), (status, "", ""), streams)
+            assert (done.returncode, done.stdout, done.stderr) == (status, "", ""), streams
 
 
 class Reasons(unittest.TestCase):
@@ -91,4 +91,4 @@ class Reasons(unittest.TestCase):
         for fault, text in ((FileNotFoundError(2, os.strerror(2), "a.txt"), "No such file or directory"),
                             (OSError(28, os.strerror(28)), "No space left on device"), (OSError("odd"), "odd"),
                             (ValueError("x"), "x")):
-            self.assertEqual(ending.fault_text("a.txt", fault), f"a.txt: {text}")
+            assert ending.fault_text("a.txt", fault) == f"a.txt: {text}"

@@ -67,41 +67,39 @@ class Reading(WithFiles):
             read = self.read(self.made(*given, suffix=suffix))
             found = shapes(read.column)
             points = {*zip(found.x.tolist(), found.y.tolist())}
-            self.assertEqual((read.system, sorted(read.names.tolist()), len(found.x)), ("EPSG:25832", ["p0", "p1"], 15))
-            self.assertEqual(points, {*RING, *HOLE, *corner})
+            assert (read.system, sorted(read.names.tolist()), len(found.x)) == ("EPSG:25832", ["p0", "p1"], 15)
+            assert points == {*RING, *HOLE, *corner}
 
     def test_a_file_is_what_it_has_whatever_it_is_called(self) -> None:
         for suffix in ("gpkg", "fgb"):
             made = pathlib.Path(self.made(f"POLYGON {text_of(RING)}", suffix=suffix))
             for name in ("map.json", "map.csv", "map.shp", "map"):
                 other = made.rename(self.folder / name)
-                self.assertEqual((self.read(str(other)).names.tolist(), map_words.form_of(str(other)) is None),
-                                 (["p0"], False))
+                assert (self.read(str(other)).names.tolist(), map_words.form_of(str(other)) is None) == (["p0"], False)
                 made = other
         for name in ("a.csv", "a.txt", "a.geojson", "a"):
             table = self.file(name, f'"nr",WKT\np0,"POLYGON {text_of(RING)}"\n')
-            self.assertEqual((self.read(str(table)).names.tolist(), map_words.form_of(str(table)) is None),
-                             (["p0"], False))
+            assert (self.read(str(table)).names.tolist(), map_words.form_of(str(table)) is None) == (["p0"], False)
 
     def test_a_third_coordinate_is_left_out(self) -> None:
         read = self.read(self.made("POLYGON Z ((0 0 7, 4 0 7, 0 4 7, 0 0 7))",
                                    "POLYGON ZM ((0 0 1 2, 4 0 1 2, 0 4 1 2, 0 0 1 2))"))
         found = shapes(read.column)
-        self.assertEqual([*zip(found.x, found.y)], [(0, 0), (4, 0), (0, 4)] * 2)
+        assert [*zip(found.x, found.y)] == [(0, 0), (4, 0), (0, 4)] * 2
 
     def test_what_is_no_polygon_is_left_out_and_told(self) -> None:
         path = self.made("POINT (1 1)", f"POLYGON {text_of(RING)}", None, "LINESTRING (0 0, 1 1)",
                          "CURVEPOLYGON (CIRCULARSTRING (0 0, 1 1, 2 0, 1 -1, 0 0))")
         read = self.read(path)
-        self.assertEqual(read.names.tolist(), ["p1"])
-        self.assertEqual([one.removeprefix(f"{path}, ") for one in read.left_out], [
+        assert read.names.tolist() == ["p1"]
+        assert [one.removeprefix(f"{path}, ") for one in read.left_out] == [
             "feature 1 (p0): a Point, no polygon", "feature 3 (p2): a feature without a geometry",
-            "feature 4 (p3): a Line String, no polygon", "feature 5 (p4): a Curve Polygon, no polygon"])
+            "feature 4 (p3): a Line String, no polygon", "feature 5 (p4): a Curve Polygon, no polygon"]
 
     def test_features_are_called_by_a_property_or_by_number(self) -> None:
         path = self.made(*[f"POLYGON {text_of(RING)}"] * 2)
-        self.assertEqual(self.read(path).names.tolist(), ["p0", "p1"])
-        self.assertEqual(self.read(path, id_field=None).names.tolist(), ["1", "2"])
+        assert self.read(path).names.tolist() == ["p0", "p1"]
+        assert self.read(path, id_field=None).names.tolist() == ["1", "2"]
         self.refused("no property code; say one of: nr", path, id_field="code")
 
     def test_a_name_that_is_no_utf_8_is_refused_before_anything_is_asked(self) -> None:
@@ -113,13 +111,13 @@ class Reading(WithFiles):
         gdal.VectorTranslate(path, self.made(f"POLYGON {text_of(RING)}"), format="GML")
         (self.folder / "map.xsd").unlink()
         before = sorted(self.folder.iterdir())
-        self.assertEqual(self.read(path).names.tolist(), ["p0"])
-        self.assertEqual(sorted(self.folder.iterdir()), before)
+        assert self.read(path).names.tolist() == ["p0"]
+        assert sorted(self.folder.iterdir()) == before
 
     def test_several_layers_have_to_be_named(self) -> None:
         path = self.made(f"POLYGON {text_of(RING)}", layers=("parcels", "zones"))
         self.refused("2 layers, parcels, zones; name one by --a-layer", path)
-        self.assertEqual(len(self.read(path, layer="zones")), 1)
+        assert len(self.read(path, layer="zones")) == 1
         self.refused("no layer roads; say one of: parcels, zones", path, layer="roads")
 
     def test_what_is_no_map_is_refused(self) -> None:
@@ -147,19 +145,19 @@ class Writing(InFolder):
 
     def test_pieces_are_read_back(self) -> None:
         for name in ("pieces.gpkg", "pieces.fgb"):
-            self.assertEqual(gdal_writing.write(str(self.folder / name), self.pieces(3), "EPSG:25832"), 3)
+            assert gdal_writing.write(str(self.folder / name), self.pieces(3), "EPSG:25832") == 3
             found = self.features(name)
-            self.assertEqual([one[:3] for one in found], [("p0", "z", 100.0), ("p1", None, 100.0), ("p2", "z", 100.0)])
-            self.assertEqual(found[1][3], "MULTIPOLYGON (((20 0,30 0,30 10,20 10,20 0)))")
-        self.assertEqual({one.name for one in self.folder.iterdir()}, {"pieces.gpkg", "pieces.fgb"})
+            assert [one[:3] for one in found] == [("p0", "z", 100.0), ("p1", None, 100.0), ("p2", "z", 100.0)]
+            assert found[1][3] == "MULTIPOLYGON (((20 0,30 0,30 10,20 10,20 0)))"
+        assert {one.name for one in self.folder.iterdir()} == {"pieces.gpkg", "pieces.fgb"}
 
     def test_pieces_of_a_map_without_a_system_are_of_a_plane(self) -> None:
         for name in ("pieces.gpkg", "pieces.fgb"):
             path = str(self.folder / name)
             gdal_writing.write(path, self.pieces(3), None)
             file = gdal.OpenEx(path, gdal.OF_VECTOR)
-            self.assertTrue(file.GetLayer(0).GetSpatialRef().IsLocal())
-            self.assertIsNone(map_columns.read(path, None).system)
+            assert file.GetLayer(0).GetSpatialRef().IsLocal()
+            assert map_columns.read(path, None).system is None
 
     def test_many_go_into_parts_that_open_as_one(self) -> None:
         for suffix in ("gpkg", "fgb"):
@@ -167,16 +165,16 @@ class Writing(InFolder):
                 old.unlink()
             gdal_writing.write(str(self.folder / f"pieces.{suffix}"), self.pieces(7), "EPSG:25832", 3)
             parts = [f"pieces-00{part}.{suffix}" for part in (1, 2, 3)]
-            self.assertEqual({one.name for one in self.folder.iterdir()}, {*parts, "pieces.vrt"})
-            self.assertEqual([len(self.features(part)) for part in parts], [3, 3, 1])
-            self.assertEqual(self.features("pieces.vrt"), sorted(one for part in parts for one in self.features(part)))
+            assert {one.name for one in self.folder.iterdir()} == {*parts, "pieces.vrt"}
+            assert [len(self.features(part)) for part in parts] == [3, 3, 1]
+            assert self.features("pieces.vrt") == sorted(one for part in parts for one in self.features(part))
 
     def test_exactly_one_part_is_one_file_and_none_is_one_without_features(self) -> None:
         for count in (0, 3):
-            self.assertEqual(gdal_writing.write(str(self.folder / "pieces.gpkg"), self.pieces(count), None, 3), count)
-            self.assertEqual([one.name for one in self.folder.iterdir()], ["pieces.gpkg"])
+            assert gdal_writing.write(str(self.folder / "pieces.gpkg"), self.pieces(count), None, 3) == count
+            assert [one.name for one in self.folder.iterdir()] == ["pieces.gpkg"]
             if count:
-                self.assertEqual(len(self.features("pieces.gpkg")), count)
+                assert len(self.features("pieces.gpkg")) == count
 
     def test_what_fails_amid_pieces_leaves_what_was_there(self) -> None:
         before = self.file("pieces.gpkg", "as it was")
@@ -186,7 +184,7 @@ class Writing(InFolder):
             raise KeyboardInterrupt
 
         self.assertRaises(KeyboardInterrupt, gdal_writing.write, str(before), broken(), None, 2)
-        self.assertEqual([(one.name, one.read_text()) for one in self.folder.iterdir()], [("pieces.gpkg", "as it was")])
+        assert [(one.name, one.read_text()) for one in self.folder.iterdir()] == [("pieces.gpkg", "as it was")]
 
     def test_a_full_disk_is_told_and_leaves_what_was_there(self) -> None:
         before = {self.file(f"pieces.{suffix}", "as it was").name for suffix in ("gpkg", "fgb")}
@@ -198,16 +196,15 @@ class Writing(InFolder):
                 with self.assertRaisesRegex(Unusable, rf"{name}: [^ ]+ [^ ]+"):
                     gdal_writing.write(str(self.folder / name), self.pieces(5000), None)
                 resource.setrlimit(resource.RLIMIT_FSIZE, (hard, hard))
-                self.assertEqual({one.name for one in self.folder.iterdir()}, before)
-                self.assertEqual((self.folder / name).read_text(), "as it was")
+                assert {one.name for one in self.folder.iterdir()} == before
+                assert (self.folder / name).read_text() == "as it was"
 
     def test_a_link_its_file_s_mode_and_a_neighbour_stay(self) -> None:
         real, own = self.file("real.gpkg", "before", 0o640), self.file("new.real.gpkg", "mine")
         (self.folder / "pieces.gpkg").symlink_to(real)
         gdal_writing.write(str(self.folder / "pieces.gpkg"), self.pieces(3), None)
-        self.assertEqual((len(self.features("real.gpkg")), real.stat().st_mode & 0o777, own.read_text()),
-                         (3, 0o640, "mine"))
-        self.assertTrue((self.folder / "pieces.gpkg").is_symlink())
+        assert (len(self.features("real.gpkg")), real.stat().st_mode & 0o777, own.read_text()) == (3, 0o640, "mine")
+        assert (self.folder / "pieces.gpkg").is_symlink()
         os.mkfifo(self.folder / "pipe.gpkg")
         with self.assertRaisesRegex(ReadingFault, "pipe.gpkg: no file; "):
             gdal_writing.write(str(self.folder / "pipe.gpkg"), self.pieces(3), None)
@@ -225,9 +222,9 @@ class Missing(WithFiles):
                     "cli.main(['check', *sys.argv[1:]])")
             done = subprocess.run([sys.executable, "-c", text, *words], cwd=TOP, env=SOURCES, capture_output=True,
                                   text=True, check=False)
-            self.assertEqual((done.returncode, done.stdout, done.stderr), (
+            assert (done.returncode, done.stdout, done.stderr) == (
                 1, "", f"overlay check: {package} is missing: apt-get install {package}, and run this by "
-                "/usr/bin/python3\n"))
+                "/usr/bin/python3\n")
 
 
 class OverTool(WithFiles):
@@ -248,10 +245,10 @@ class OverTool(WithFiles):
             words = ["--factor", "1", "--a-id", "nr", "--program", Programs.features, "--jobs", "1"]
             gaps = ["--gaps", self.folder / "gaps.gpkg"] if Ask(str(Programs.features)).makes_outlines() else []
             status, table, told = outcome(check, path, *words, *gaps)
-            self.assertEqual(status, 0, told)
+            assert status == 0, told
             tables.append(table)
-        self.assertEqual(tables[0], tables[1])
+        assert tables[0] == tables[1]
         # A square overlaps its neighbours to the right and above by 3 x 10, and those across by 3 x 3: 12, 12, 9 and 9.
         areas = sorted(float(row["area"]) for row in csv.DictReader(io.StringIO(tables[0])))
-        self.assertEqual(areas, [9.0] * 18 + [30.0] * 24)
-        self.assertEqual((self.folder / "gaps.gpkg").is_file(), bool(gaps))
+        assert areas == [9.0] * 18 + [30.0] * 24
+        assert (self.folder / "gaps.gpkg").is_file() == bool(gaps)

@@ -22,12 +22,12 @@ def ran(*words: object) -> subprocess.CompletedProcess[str]:
 
 class Helps(unittest.TestCase):
     def test_each_subcommand_says_what_it_does(self) -> None:
-        self.assertEqual(len(PURPOSES), 14)
+        assert len(PURPOSES) == 14
         for name in PURPOSES:
             done = ran(*OVERLAY, name, "--help")
-            self.assertEqual((done.returncode, done.stderr), (0, ""), name)
-            self.assertTrue(done.stdout.lower().startswith(f"usage: overlay {name} "), name)
-            self.assertGreater(len(done.stdout.split()), 20, name)
+            assert (done.returncode, done.stderr) == (0, ""), name
+            assert done.stdout.lower().startswith(f"usage: overlay {name} "), name
+            assert len(done.stdout.split()) > 20, name
 
     def test_the_list_of_subcommands_loads_none_of_them(self) -> None:
         code = ("import sys\nfrom overlayd import cli\n"
@@ -36,12 +36,12 @@ class Helps(unittest.TestCase):
         done = subprocess.run([sys.executable, "-c", code], cwd=TOP / "python/src", capture_output=True, text=True,
                               check=True, timeout=SECONDS)
         listed, _, modules = done.stdout.rstrip().rpartition("\n")
-        self.assertEqual(re.findall(r"^  ([a-z]+)  ", listed.partition("Subcommands:")[2], re.M), list(PURPOSES))
-        self.assertEqual(modules, "['overlayd', 'overlayd.api', 'overlayd.cli', 'overlayd.ending']")
+        assert re.findall(r"^  ([a-z]+)  ", listed.partition("Subcommands:")[2], re.M) == list(PURPOSES)
+        assert modules == "['overlayd', 'overlayd.api', 'overlayd.cli', 'overlayd.ending']"
 
     def test_a_word_that_is_no_subcommand_is_refused(self) -> None:
         done = ran(*OVERLAY, "to_script")
-        self.assertEqual((done.returncode, done.stdout, "No such command 'to_script'" in done.stderr), (2, "", True))
+        assert (done.returncode, done.stdout, "No such command 'to_script'" in done.stderr) == (2, "", True)
 
     def test_an_option_of_one_value_that_is_given_twice_is_refused(self) -> None:
         for words in (
@@ -52,18 +52,17 @@ class Helps(unittest.TestCase):
         ):
             done = ran(*OVERLAY, *words, "1", words[-1], "1")
             told = f"Error: Option '{words[-1]}' is given twice.\n"
-            self.assertEqual((done.returncode, done.stdout, done.stderr.endswith(told)), (2, "", True), done.stderr)
+            assert (done.returncode, done.stdout, done.stderr.endswith(told)) == (2, "", True), done.stderr
 
     def test_an_option_is_given_once_by_whichever_of_its_names(self) -> None:
         done = ran(*OVERLAY, "check", "a", "--where", "x", "--a-where=y")
-        self.assertEqual((done.returncode, done.stderr.splitlines()[-1:]),
-                         (2, ["Error: Option '--a-where' is given twice."]))
+        assert (done.returncode, done.stderr.splitlines()[-1:]) == (2, ["Error: Option '--a-where' is given twice."])
 
     def test_what_may_be_given_several_times_is_taken_so(self) -> None:
         given = "-5 --name b --name=-b --exact --exact --origin -1 -5/3 --dask -- -a".split()
         found = {"name": ("b", "-b"), "origin": (-1, Fraction(-5, 3)), "exact": True, "dask": "", "files": ("-5", "-a")}
         for _ in range(2):  # what is parsed anew is given anew
-            self.assertEqual(vars(words_of(self.command(), given)), found)
+            assert vars(words_of(self.command(), given)) == found
 
     def command(self) -> click.Command:
         return subcommand(None, option("--name", "", multiple=True), option("--origin", "", NUMBER, nargs=2),
@@ -81,7 +80,7 @@ class Helps(unittest.TestCase):
 
     def test_each_subcommand_is_told_once(self) -> None:
         rows = re.findall(r"^\| `overlay ([a-z]+)` \|", (TOP / "python/README.md").read_text(), re.M)
-        self.assertEqual(rows, list(PURPOSES))
+        assert rows == list(PURPOSES)
 
     def test_each_module_is_told_once(self) -> None:
         _, _, table = (TOP / "python/README.md").read_text().partition("| Part | Modules |\n")
@@ -102,4 +101,4 @@ class Helps(unittest.TestCase):
                            [sys.executable, TOP / "python/src/overlayd/__main__.py"]):
                 done = subprocess.run([*map(str, called), "which", "--help"], cwd=made, capture_output=True, text=True,
                                       check=True, timeout=SECONDS)
-                self.assertTrue(done.stdout.startswith("Usage: overlay which [OPTIONS] [X Y]"), done.stdout)
+                assert done.stdout.startswith("Usage: overlay which [OPTIONS] [X Y]"), done.stdout

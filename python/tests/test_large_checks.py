@@ -34,23 +34,23 @@ class Checks(WithMaps):
         done = subprocess.run([*OVERLAY, "check", *map(str, words), "--a-id", "nr",
                                "--program", str(Programs.features)], capture_output=True, text=True, timeout=4 * ENDS,
                               check=False)
-        self.assertLess(time.monotonic() - begin, ENDS)
+        assert time.monotonic() - begin < ENDS
         return done.returncode, list(csv.reader(done.stdout.splitlines()))[1:], done.stderr
 
     def test_a_feature_of_more_points_than_a_cell_may_have(self) -> None:
         small = {f"p{at}": square(3000 * (at % 20), 3000 * (at // 20), 2500) for at in range(200)}
         whole = self.map("a", {"coast": coast(1500, 40_000), **small})
         status, rows, errors = self.checked(whole, "--factor", 1)
-        self.assertEqual(status, 0, errors)
-        self.assertIn(" and what is open are the whole frame, and areas less overlaps", errors)
+        assert status == 0, errors
+        assert " and what is open are the whole frame, and areas less overlaps" in errors
         found = {(row[0], row[1], float(row[3])) for row in rows}
-        self.assertTrue({("coast", "p0", 6250000.0), ("coast", "p21", 6250000.0)} <= found)
+        assert {("coast", "p0", 6250000.0), ("coast", "p21", 6250000.0)} <= found
 
     def test_two_coasts_that_overlap(self) -> None:
         moved: list[Any] = [[x + 9000, y + 5000] for x, y in coast(900, 40_000)]
         status, rows, errors = self.checked(self.map("a", {"A": coast(900, 40_000), "B": moved}), "--factor", 1)
-        self.assertEqual((status, len(rows)), (0, 1), errors)
-        self.assertIn(" and what is open are the whole frame, and areas less overlaps", errors)
+        assert (status, len(rows)) == (0, 1), errors
+        assert " and what is open are the whole frame, and areas less overlaps" in errors
 
     def test_sixty_quadrilaterals_on_each_other(self) -> None:
         source = random.Random(1)
@@ -59,8 +59,8 @@ class Checks(WithMaps):
         pile = {f"q{at}": [*ring, ring[0]] for at, ring in enumerate(rings)}
         beside = {"left": square(200, 0, 10), "right": square(209, 0, 10)}
         status, rows, errors = self.checked(self.map("a", {**pile, **beside}), "--factor", 1)
-        self.assertEqual((status, len(rows)), (0, 60 * 59 // 2 + 1), errors)
-        self.assertIn(["left", "right", "10.0"], [[*row[:2], row[3]] for row in rows])
+        assert (status, len(rows)) == (0, 60 * 59 // 2 + 1), errors
+        assert ["left", "right", "10.0"] in [[*row[:2], row[3]] for row in rows]
         covered = re.search(r"what is covered \(([0-9.]+)\) and what is open are the whole frame", errors)
         assert covered, errors
         union = unary_union([Polygon(ring) for ring in (*pile.values(), *beside.values())])

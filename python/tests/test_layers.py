@@ -32,11 +32,11 @@ class Layers(unittest.TestCase):
     def test_each_module_imports_only_those_above_it(self) -> None:
         paths = [path for path in (*SOURCES.glob("*.py"), *SOURCES.glob("*/*.py")) if path.parent != SOURCES
                  or path.stem != "__init__"]
-        self.assertGreater(len(paths), 80)
+        assert len(paths) > 80
         for path in paths:
             own = path.relative_to(SOURCES).parts[0].removesuffix(".py")
             for one in imports(path) & set(ORDER):
-                self.assertLessEqual(ORDER.index(one), ORDER.index(own), f"{path}: {one}")
+                assert ORDER.index(one) <= ORDER.index(own), f"{path}: {one}"
 
     def test_the_client_imports_the_standard_library_alone(self) -> None:
-        self.assertEqual(imports(SOURCES / "program.py"), set())
+        assert imports(SOURCES / "program.py") == set()

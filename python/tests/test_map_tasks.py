@@ -59,26 +59,26 @@ class Folders(InTasks):
 
         def work(task: bytes) -> bytes:
             calls.append(task)
-            self.assertEqual(sorted(self.work.glob("*.result")), [])
+            assert sorted(self.work.glob("*.result")) == []
             return task[::-1]
 
         def renamed(new: pathlib.Path, target: pathlib.Path) -> None:
-            self.assertFalse(target.exists())
-            self.assertEqual(tasks.unsealed(new, "").split(b"\n")[0], b"3 ksat")
+            assert not target.exists()
+            assert tasks.unsealed(new, "").split(b"\n")[0] == b"3 ksat"
             os.replace(new, target)
 
         with mock.patch.object(pathlib.Path, "replace", autospec=True, side_effect=renamed) as renames:
             tasks.do(work, folder, 3)
             tasks.do(work, folder, 3)
-        self.assertEqual([call.args[1].name for call in renames.call_args_list], ["000003.result"])
-        self.assertEqual((calls, folder.came_of(3)), ([b"task 3"], b"3 ksat"))
-        self.assertEqual(folder.left(), [number for number in range(12) if number != 3])
-        self.assertEqual(sorted(self.work.glob("*.new")), [])
+        assert [call.args[1].name for call in renames.call_args_list] == ["000003.result"]
+        assert (calls, folder.came_of(3)) == ([b"task 3"], b"3 ksat")
+        assert folder.left() == [number for number in range(12) if number != 3]
+        assert sorted(self.work.glob("*.new")) == []
 
     def test_what_fails_amid_a_file_leaves_none(self) -> None:
         folder = self.begun()
         self.assertRaises(TypeError, tasks.put, folder.result(0), "no bytes")
-        self.assertEqual((sorted(self.work.glob("*.new")), len(folder.left())), ([], 12))
+        assert (sorted(self.work.glob("*.new")), len(folder.left())) == ([], 12)
 
     def test_a_plan_that_was_broken_off_is_made_again(self) -> None:
         def broken() -> object:
@@ -89,7 +89,7 @@ class Folders(InTasks):
         with self.assertRaisesRegex(FolderFault, "no tasks of a run"):
             TaskFolder(self.work).count()
         folder = self.begun()
-        self.assertEqual([folder.given(number) for number in range(folder.count())], NAMES)
+        assert [folder.given(number) for number in range(folder.count())] == NAMES
 
     def test_a_run_begun_again_takes_its_tasks_and_looks_at_no_new_ones(self) -> None:
         self.begun(factor="1000")
@@ -99,7 +99,7 @@ class Folders(InTasks):
             yield b""
 
         folder = tasks.begin(self.work, {"factor": "1000", "asks": "names"}, none())
-        self.assertEqual((folder.count(), folder.run()), (12, {"asks": "names", "factor": "1000"}))
+        assert (folder.count(), folder.run()) == (12, {"asks": "names", "factor": "1000"})
 
     def test_a_folder_of_another_run_is_refused(self) -> None:
         self.begun(factor="1000")
@@ -113,7 +113,7 @@ class Folders(InTasks):
         (self.work / "parcels.gpkg").touch()
         with self.assertRaisesRegex(FolderFault, "parcels.gpkg is no task"):
             self.begun()
-        self.assertEqual([one.name for one in self.work.iterdir()], ["parcels.gpkg"])
+        assert [one.name for one in self.work.iterdir()] == ["parcels.gpkg"]
 
     def test_what_stands_in_the_place_of_a_plan_is_told(self) -> None:
         for text, named in (("", "run.json: Expecting"), ("[]", "another release"), ('{"form": 0}', "another release")):
@@ -159,14 +159,14 @@ class Folders(InTasks):
         folder = self.begun()
         for number in range(12):
             tasks.do(Reversing(self.marks), folder, number)
-        self.assertEqual(list(folder.results()), ENDS)
+        assert list(folder.results()) == ENDS
         folder.result(4).write_bytes(folder.result(5).read_bytes())
         with self.assertRaisesRegex(FolderFault,
                                     "000004.result: it came of another task; remove it and say the same again"):
             list(folder.results())
         folder.result(4).unlink()
         tasks.do(Reversing(self.marks), folder, 4)
-        self.assertEqual(list(folder.results()), ENDS)
+        assert list(folder.results()) == ENDS
 
     def test_one_run_at_a_time_has_a_folder(self) -> None:
         words = self.words("60")
@@ -183,7 +183,7 @@ class Folders(InTasks):
         fault = OSError(errno.ENOLCK, os.strerror(errno.ENOLCK))
         with mock.patch("fcntl.lockf", side_effect=fault), self.assertRaises(OSError) as raised, tasks.held(self.work):
             pass
-        self.assertIs(raised.exception, fault)
+        assert raised.exception is fault
 
     def test_results_without_a_plan_are_none_of_the_run_that_is_begun(self) -> None:
         folder = self.begun(factor="1000")
@@ -191,13 +191,13 @@ class Folders(InTasks):
             tasks.do(Reversing(self.marks), folder, number)
         folder.plan.unlink()
         again = self.begun([name.upper() for name in NAMES], factor="100")
-        self.assertEqual(again.left(), list(range(12)))
+        assert again.left() == list(range(12))
 
     def test_numbers_are_handed_out_by_others(self) -> None:
         folder = self.begun()
         work = Reversing(self.marks)
         tasks.do_numbers(work, self.work, [4, 2])
-        self.assertEqual(len(folder.left()), 10)
+        assert len(folder.left()) == 10
         for number in (-1, 12):
             with self.assertRaisesRegex(FolderFault, "they are 0 to 11"):
                 tasks.do_numbers(work, self.work, [number])
@@ -206,9 +206,9 @@ class Folders(InTasks):
     def test_an_input_that_changed_is_another(self) -> None:
         one = self.file("map.json", "{}")
         before = tasks.stamp(one)
-        self.assertEqual(before, tasks.stamp(one))
+        assert before == tasks.stamp(one)
         one.write_text("{ }")
-        self.assertNotEqual(before, tasks.stamp(one))
+        assert before != tasks.stamp(one)
 
     def test_a_part_of_an_input_that_changed_makes_it_another(self) -> None:
         (self.folder / "a.gdb").mkdir()
@@ -220,9 +220,9 @@ class Folders(InTasks):
                 self.file(part, "x")
                 had = tasks.stamp(one)
                 self.file(part, "xx")
-                self.assertEqual(len({str(found) for found in (alone, had, tasks.stamp(one))}), 3)
+                assert len({str(found) for found in (alone, had, tasks.stamp(one))}) == 3
                 self.file("a.csv", "of somebody else")
-                self.assertEqual(tasks.stamp(one), tasks.stamp(one))
+                assert tasks.stamp(one) == tasks.stamp(one)
 
 
 def wait_for(condition: object, seconds: float = WAIT) -> None:
@@ -246,13 +246,13 @@ class Engines(WithProcesses):
         return list(folder.results())
 
     def test_all_engines_have_one_result(self) -> None:
-        self.assertEqual(self.ran(engines.in_process, Reversing(self.marks)), ENDS)
-        self.assertEqual(self.processes(), {os.getpid()})
+        assert self.ran(engines.in_process, Reversing(self.marks)) == ENDS
+        assert self.processes() == {os.getpid()}
         self.work = self.folder / "other"
-        self.assertEqual(self.ran(engines.several(2), Reversing(self.marks, seconds=0.01)), ENDS)
+        assert self.ran(engines.several(2), Reversing(self.marks, seconds=0.01)) == ENDS
 
     def test_no_task_is_none_to_do(self) -> None:
-        self.assertEqual(self.ran(engines.several(2), Refusing(), []), [])
+        assert self.ran(engines.several(2), Refusing(), []) == []
 
     def test_a_task_that_is_refused_is_named(self) -> None:
         for engine in (engines.in_process, engines.several(2)):
@@ -267,8 +267,8 @@ class Engines(WithProcesses):
         wait_for(lambda: not any(map(is_running, self.processes())))
         done = 12 - len(TaskFolder(self.work).left())
         again = subprocess.run(self.words("0"), cwd=TOP, env=SOURCES, capture_output=True, text=True, timeout=WAIT)
-        self.assertIn(f"names: {done} of 12 tasks were done before\n", again.stderr)
-        self.assertEqual((again.returncode, list(TaskFolder(self.work).results())), (0, ENDS))
+        assert f"names: {done} of 12 tasks were done before\n" in again.stderr
+        assert (again.returncode, list(TaskFolder(self.work).results())) == (0, ENDS)
 
 
 @unittest.skipUnless(HAS_DASK, "python3-distributed is not installed")
@@ -276,9 +276,9 @@ class Dask(WithProcesses):
     def test_what_a_dead_worker_had_is_begun_again_and_no_process_is_left(self) -> None:
         words = self.words("0", "dask", "1")
         run = subprocess.run(words, cwd=TOP, env=SOURCES, capture_output=True, text=True, timeout=DASK_WAIT)
-        self.assertEqual(run.returncode, 0, run.stderr)
-        self.assertEqual(list(TaskFolder(self.work).results()), ENDS, run.stderr)
-        self.assertEqual(len(list(self.marks.glob("death *"))), 1)
+        assert run.returncode == 0, run.stderr
+        assert list(TaskFolder(self.work).results()) == ENDS, run.stderr
+        assert len(list(self.marks.glob("death *"))) == 1
         wait_for(lambda: not any(map(is_running, self.processes())))
 
     def test_workers_end_with_a_run_that_is_killed(self) -> None:
@@ -289,7 +289,7 @@ class Dask(WithProcesses):
         wait_for(lambda: not any(map(is_running, self.processes())))
         folder = TaskFolder(self.work)
         done = [number for number in range(12) if number not in folder.left()]
-        self.assertEqual([folder.came_of(number) for number in done], [ENDS[number] for number in done])
+        assert [folder.came_of(number) for number in done] == [ENDS[number] for number in done]
 
 
 class OverCommand(InTasks):
@@ -310,11 +310,11 @@ class OverCommand(InTasks):
     def test_all_engines_have_one_table(self) -> None:
         status, table, _ = self.table("--processes", 1)
         # Of each square with up to four, and with corners of others.
-        self.assertEqual((status, table.count("overlaps")), (0, 36 + 2 * 30 + 25))
-        self.assertEqual(self.table("--processes", 3)[:2], (0, table))
-        self.assertEqual(self.table("--processes", 2, "--work", self.work)[:2], (0, table))
+        assert (status, table.count("overlaps")) == (0, 36 + 2 * 30 + 25)
+        assert self.table("--processes", 3)[:2] == (0, table)
+        assert self.table("--processes", 2, "--work", self.work)[:2] == (0, table)
         status, again, told = self.table("--jobs", 2, "--work", self.work)
-        self.assertEqual((status, again), (0, table))
+        assert (status, again) == (0, table)
         self.assertRegex(told, r"pairs 1: (\d+) of \1 tasks were done before")
 
     @unittest.skipUnless(HAS_DASK, "python3-distributed is not installed")
@@ -322,32 +322,32 @@ class OverCommand(InTasks):
         words = [*OVERLAY, "pairs", self.folder / "a.geojson", self.folder / "b.geojson", "--factor", "1", "--program",
                  Programs.features, "--processes", "2", "--at-once", "9", "--dask"]
         run = subprocess.run(words, capture_output=True, text=True, timeout=DASK_WAIT, check=False)
-        self.assertEqual((run.returncode, run.stdout), (0, self.table("--processes", 1)[1]), run.stderr)
+        assert (run.returncode, run.stdout) == (0, self.table("--processes", 1)[1]), run.stderr
 
     def test_others_do_the_tasks(self) -> None:
         status, _, told = self.table("--processes", 0, "--work", self.work)
         count = TaskFolder(self.work / "1").count()
-        self.assertEqual(status, 0)
-        self.assertIn(f"{count} of {count} tasks are left", told)
+        assert status == 0
+        assert f"{count} of {count} tasks are left" in told
         words = [*OVERLAY, "task", self.work / "1", "--program", Programs.features]
         numbers = "".join(f"{number}\n" for number in range(count))
         subprocess.run(["xargs", "-P", "2", "-n", "7", *words], input=numbers, text=True, check=True, timeout=SECONDS)
-        self.assertEqual(self.table("--processes", 0, "--work", self.work)[1], self.table("--processes", 1)[1])
-        self.assertEqual(outcome(task, *words[3:], count)[0], 2)
+        assert self.table("--processes", 0, "--work", self.work)[1] == self.table("--processes", 1)[1]
+        assert outcome(task, *words[3:], count)[0] == 2
         status, table, told = self.table("--processes", 0)
-        self.assertEqual((status, table, told.splitlines()[-1][:29]), (2, "", "--processes 0 leaves the task"))
-        self.assertEqual(outcome(task, self.folder, 0, "--program", Programs.features)[0], 2)
+        assert (status, table, told.splitlines()[-1][:29]) == (2, "", "--processes 0 leaves the task")
+        assert outcome(task, self.folder, 0, "--program", Programs.features)[0] == 2
 
     def test_a_program_that_ends_is_begun_again(self) -> None:
         dying = self.file("dying", f"#!/bin/sh\nmkdir '{self.marks}/ended' 2>&- && exit\n"
                           f"exec {Programs.features} \"$@\"\n", 0o700)
         never = self.file("never", "#!/bin/sh\nexit 3\n", 0o700)
         for words in (("--processes", 1), ("--processes", 2), ("--processes", 2, "--work", self.work)):
-            self.assertEqual(self.table(*words, program=dying)[:2], self.table("--processes", 1)[:2])
+            assert self.table(*words, program=dying)[:2] == self.table("--processes", 1)[:2]
             (self.marks / "ended").rmdir()
             status, table, told = self.table(*words[:2], *(("--work", self.folder / "never-done") if words[2:] else ()),
                                              program=never)
-            self.assertEqual((status, table), (1, ""))
+            assert (status, table) == (1, "")
             self.assertRegex(told, "task [01]: ProgramEnded: .*status 3" if words[2:] else "ended with status 3")
 
     def test_a_damaged_folder_is_told_and_mended_by_what_is_told(self) -> None:
@@ -358,25 +358,25 @@ class OverCommand(InTasks):
                 "which does")
         for words in ((), ("--out", self.folder / "out.csv")):
             status, again, errors = self.table("--processes", 1, "--work", self.work, *words)
-            self.assertEqual((status, again), (2, ""))
-            self.assertIn(told, errors)
-        self.assertFalse((self.folder / "out.csv").exists())
+            assert (status, again) == (2, "")
+            assert told in errors
+        assert not (self.folder / "out.csv").exists()
         result.unlink()
-        self.assertEqual(self.table("--processes", 1, "--work", self.work)[:2], (0, table))
+        assert self.table("--processes", 1, "--work", self.work)[:2] == (0, table)
         result.unlink()
         (self.work / "1" / "000002.task").write_bytes(b"{}")
         status, again, errors = self.table("--processes", 2, "--work", self.work)
-        self.assertEqual((status, again), (1, ""))
-        self.assertIn("task 2: ", errors)
-        self.assertIn("000002.task: damaged, as it has not the digest of what was written; begin the run again", errors)
+        assert (status, again) == (1, "")
+        assert "task 2: " in errors
+        assert "000002.task: damaged, as it has not the digest of what was written; begin the run again" in errors
 
     def test_a_folder_of_another_run_is_refused(self) -> None:
         self.table("--work", self.work, "--processes", 1)
         status, table, told = self.table("--work", self.work, "--node")
-        self.assertEqual((status, table), (2, ""))
-        self.assertIn("tasks of another run (node: 'False' there, 'True' here)", told)
+        assert (status, table) == (2, "")
+        assert "tasks of another run (node: 'False' there, 'True' here)" in told
         (self.folder / "b.geojson").write_text(json.dumps({"type": "FeatureCollection", "features": [square(0, 0)]}))
-        self.assertIn("tasks of another run (maps: ", self.table("--work", self.work)[2])
+        assert "tasks of another run (maps: " in self.table("--work", self.work)[2]
 
     def test_a_run_that_is_killed_leaves_no_half_of_a_table(self) -> None:
         slow = self.file("slow", f"#!/bin/sh\nsleep 0.2\nexec {Programs.features}\n", 0o700)
@@ -387,11 +387,11 @@ class OverCommand(InTasks):
             self.addCleanup(run.kill)
             wait_for(lambda: len(list((self.work / "1").glob("*.result"))) >= 2)
             run.kill()
-        self.assertEqual(out.read_text(), "before")
+        assert out.read_text() == "before"
         done = subprocess.run([*map(str, words), str(Programs.features)], capture_output=True, text=True,
                               timeout=2 * WAIT, check=True)
         self.assertRegex(done.stderr, r"pairs 1: \d+ of \d+ tasks were done before")
-        self.assertEqual(out.read_text(), self.table("--processes", 1)[1])
+        assert out.read_text() == self.table("--processes", 1)[1]
 
 
 def square(x: int, y: int) -> dict[str, object]:
@@ -402,19 +402,19 @@ def square(x: int, y: int) -> dict[str, object]:
 class Addresses(unittest.TestCase):
     def test_what_is_beyond_the_loopback_without_tls_is_open_to_all(self) -> None:
         for address in ("tcp://127.0.0.1:8786", "localhost:8786", "tcp://[::1]:8786", "tls://10.0.0.5:8786"):
-            self.assertFalse(dask_engine.is_open_to_all(address), address)
+            assert not dask_engine.is_open_to_all(address), address
         for address in ("tcp://10.0.0.5:8786", "10.0.0.5:8786", "tcp://scheduler:8786", "ws://10.0.0.5:80"):
-            self.assertTrue(dask_engine.is_open_to_all(address), address)
+            assert dask_engine.is_open_to_all(address), address
 
     def test_a_folder_is_shared_where_it_can_be_read_and_written(self) -> None:
         with tempfile.TemporaryDirectory() as folder:
             mark = pathlib.Path(folder, "mark.new")
             mark.write_bytes(b"word")
-            self.assertTrue(dask_engine.can_write_beside(str(mark), b"word"))
-            self.assertFalse(dask_engine.can_write_beside(str(mark), b"other"))
-            self.assertFalse(dask_engine.can_write_beside("/proc/version", b"word"))  # it can only be read
-            self.assertFalse(dask_engine.can_write_beside(f"{folder}/none/mark.new", b"word"))
-            self.assertEqual([one.name for one in pathlib.Path(folder).iterdir()], ["mark.new"])
+            assert dask_engine.can_write_beside(str(mark), b"word")
+            assert not dask_engine.can_write_beside(str(mark), b"other")
+            assert not dask_engine.can_write_beside("/proc/version", b"word")
+            assert not dask_engine.can_write_beside(f"{folder}/none/mark.new", b"word")
+            assert [one.name for one in pathlib.Path(folder).iterdir()] == ["mark.new"]
 
     def test_what_is_sent_to_workers_can_be_imported_alone(self) -> None:
         with tempfile.TemporaryDirectory() as folder:
@@ -422,7 +422,7 @@ class Addresses(unittest.TestCase):
             words = [sys.executable, "-c", "from overlayd.maps import replying; print(replying.__file__)"]
             done = subprocess.run(words, cwd=folder, env={"PYTHONPATH": str(sent)}, capture_output=True, text=True,
                                   check=True, timeout=SECONDS)
-            self.assertIn(".zip", done.stdout)
+            assert ".zip" in done.stdout
 
     def test_without_dask_or_keys_the_refusal_has_the_line_to_type(self) -> None:
         engine = dask_engine.by_dask(None, 1)
@@ -441,13 +441,13 @@ class Telling(unittest.TestCase):
             for now in range(1, 70):
                 told.step()
             told.end()
-        self.assertEqual(lines[0], "pairs: 21 of 90 tasks were done before")
-        self.assertEqual(lines[1], "pairs: 31 of 90 tasks, 1 a second, 59 seconds left")
-        self.assertEqual((len(lines), lines[-1]), (8, "pairs: 90 of 90 tasks, 1 a second, 0 seconds left"))
+        assert lines[0] == "pairs: 21 of 90 tasks were done before"
+        assert lines[1] == "pairs: 31 of 90 tasks, 1 a second, 59 seconds left"
+        assert (len(lines), lines[-1]) == (8, "pairs: 90 of 90 tasks, 1 a second, 0 seconds left")
 
     def test_nothing_to_do_is_told_once(self) -> None:
         lines: list[str] = []
         told = progress.OfTasks("pairs", lines.append)
         told.begin(4, 0)
         told.end()
-        self.assertEqual(lines, ["pairs: 4 of 4 tasks were done before"])
+        assert lines == ["pairs: 4 of 4 tasks were done before"]

@@ -55,8 +55,8 @@ class WithMaps(InFolder):
     def refused(self, question: str, *words: object) -> str:
         """The line of a refusal."""
         status, rows, errors = self.asked(question, *words)
-        self.assertEqual((status, rows), (2, []), errors)
-        self.assertEqual(errors.count("\n"), errors.strip().count("\n") + 1)
+        assert (status, rows) == (2, []), errors
+        assert errors.count("\n") == errors.strip().count("\n") + 1
         return errors.strip().splitlines()[-1]
 
 
@@ -76,32 +76,30 @@ class Tables(WithMaps):
         # With u = x - 30 from 0 to 1/2 between u / 3 and the less of 2 - u / 3 and 4 (u + 1) / 3.
         wanted = [["P1", "Z1", "overlaps", 25.0], ["P2", "Z1", "overlaps", 25.0], ["P3", "Z3", "overlaps", 47 / 60],
                   ["P2", "Z2", "touches", 0.0]]
-        self.assertEqual((status, short(rows)), (0, [[*row[:3], own[3]] for row, own in zip(wanted, short(rows))]))
+        assert (status, short(rows)) == (0, [[*row[:3], own[3]] for row, own in zip(wanted, short(rows))])
         for row, own in zip(rows[1:], wanted):
-            self.assertLessEqual(abs(float(row[3]) - float(str(own[3]))), float(row[4]))
-        self.assertIn("3 pairs overlap, 1 touch; areas sum to 50.7833333333, off by at most ", errors)
-        self.assertIn("nothing is rounded: all coordinates lie on the grid of 0.1 degree\n", errors)
-        self.assertEqual(self.asked(*words[:3], "--grid", "1/10", *words[5:])[:2], (0, rows))
+            assert abs(float(row[3]) - float(str(own[3]))) <= float(row[4])
+        assert "3 pairs overlap, 1 touch; areas sum to 50.7833333333, off by at most " in errors
+        assert "nothing is rounded: all coordinates lie on the grid of 0.1 degree\n" in errors
+        assert self.asked(*words[:3], "--grid", "1/10", *words[5:])[:2] == (0, rows)
 
     def test_widths_and_fractions(self) -> None:
         self.need_outlines()
         a = self.map("a", {"P1": square(0, 0, 10), "P3": [[30, 0], [33, 1], [30, 2], [30, 0]]})
         b = self.map("b", {"Z1": square(5, -5, 10), "Z3": [[29, 0], [30.5, 0], [30.5, 2], [29, 0]]})
         status, rows, _ = self.asked("pairs", a, b, "--factor", 10, "--exact", "--width")
-        self.assertEqual((status, rows[0][-2:]), (0, ["width", "area_exact"]))
-        self.assertEqual([(f"{float(row[-2]):.4g}", row[-1]) for row in rows[1:]],
-                         [("1.25", "25"), ("0.1822", "47/60")])
+        assert (status, rows[0][-2:]) == (0, ["width", "area_exact"])
+        assert [(f"{float(row[-2]):.4g}", row[-1]) for row in rows[1:]] == [("1.25", "25"), ("0.1822", "47/60")]
 
     def test_tables_of_other_forms(self) -> None:
         a, b = self.map("a", {"P": square(0, 0, 10)}), self.map("b", {"Z": square(5, 0, 10)})
-        self.assertEqual(self.asked("pairs", a, b, "--out", self.folder / "t.npy")[0], 0)
+        assert self.asked("pairs", a, b, "--out", self.folder / "t.npy")[0] == 0
         found = np.load(self.folder / "t.npy")
-        self.assertEqual((found["a"].tolist(), found["b"].tolist(), found["area"].tolist()), ([0], [0], [50.0]))
-        self.assertEqual(self.asked("pairs", a, b, "--out", self.folder / "t.gpkg", "--a-id", "nr")[0], 0)
+        assert (found["a"].tolist(), found["b"].tolist(), found["area"].tolist()) == ([0], [0], [50.0])
+        assert self.asked("pairs", a, b, "--out", self.folder / "t.gpkg", "--a-id", "nr")[0] == 0
         file = gdal.OpenEx(str(self.folder / "t.gpkg"), gdal.OF_VECTOR)
-        self.assertEqual([(one["a"], one["b"], one["area"]) for one in file.GetLayer(0)], [("P", "1", 50.0)])
-        self.assertIn("--out t.dbf: tables are written as .csv, .npy, .gpkg",
-                      self.asked("pairs", a, b, "--out", "t.dbf")[2])
+        assert [(one["a"], one["b"], one["area"]) for one in file.GetLayer(0)] == [("P", "1", 50.0)]
+        assert "--out t.dbf: tables are written as .csv, .npy, .gpkg" in self.asked("pairs", a, b, "--out", "t.dbf")[2]
 
     def test_features_are_chosen(self) -> None:
         a = self.map("a", {"P1": square(0, 0, 10), "P2": square(10, 0, 10)})
@@ -109,16 +107,16 @@ class Tables(WithMaps):
         words = "pairs", a, b, "--a-id", "nr", "--b-id", "nr"
         for where, names in (("--where", ["P2", "P2"]), ("--a-where", ["P2", "P2"])):
             rows = self.asked(*words, where, "nr = 'P2'")[1]
-            self.assertEqual([row[0] for row in rows[1:]], names)
-        self.assertEqual(short(self.asked(*words, "--b-where", "nr = 'Z2'")[1]), [["P2", "Z2", "touches", 0.0]])
-        self.assertIn("a.geojson: ", self.refused(*words, "--where", "no = 1"))
+            assert [row[0] for row in rows[1:]] == names
+        assert short(self.asked(*words, "--b-where", "nr = 'Z2'")[1]) == [["P2", "Z2", "touches", 0.0]]
+        assert "a.geojson: " in self.refused(*words, "--where", "no = 1")
 
     def test_a_table_of_pieces_is_not_written_into_a_file_of_shapes(self) -> None:
         a, b = self.map("a", {"P": square(0, 0, 10)}), self.map("b", {"Q": square(5, 5, 10)})
         for name in ("pieces.gpkg", "pieces.geojson"):
             status, _, errors = self.asked("pieces", a, b, "--out", self.folder / name)
-            self.assertEqual((status, (self.folder / name).exists()), (2, False))
-            self.assertIn(f"say --pieces {self.folder / name} for the shapes", errors)
+            assert (status, (self.folder / name).exists()) == (2, False)
+            assert f"say --pieces {self.folder / name} for the shapes" in errors
 
     def test_pieces(self) -> None:
         self.need_outlines()
@@ -128,19 +126,18 @@ class Tables(WithMaps):
         status, rows, errors = self.asked(*words, "--pieces", shapes)
         whole = [["", "Y", "alone", 75.0], ["P", "Z", "overlaps", 50.0], ["P", "", "alone", 50.0],
                  ["", "Z", "alone", 50.0], ["P", "Y", "overlaps", 25.0]]
-        self.assertEqual((status, short(rows)), (0, whole))
-        self.assertEqual([row[4] for row in rows], ["width", "1.875", "1.667", "1.667", "1.667", "1.25"])
-        self.assertIn("audit: 1 of 1 features of a are the sum of their pieces", errors)
-        self.assertIn("audit: 2 of 2 features of b are the sum of their pieces", errors)
+        assert (status, short(rows)) == (0, whole)
+        assert [row[4] for row in rows] == ["width", "1.875", "1.667", "1.667", "1.667", "1.25"]
+        assert "audit: 1 of 1 features of a are the sum of their pieces" in errors
+        assert "audit: 2 of 2 features of b are the sum of their pieces" in errors
         found = json.loads(shapes.read_text())["features"]
-        self.assertEqual(sorted((one["properties"]["a"], one["properties"]["b"], one["properties"]["area"])
-                                for one in found),
-                         [("", "Y", 75.0), ("", "Z", 50.0), ("P", "", 50.0), ("P", "Y", 25.0), ("P", "Z", 50.0)])
+        assert sorted((one["properties"]["a"], one["properties"]["b"], one["properties"]["area"]) for one in found) == \
+            [("", "Y", 75.0), ("", "Z", 50.0), ("P", "", 50.0), ("P", "Y", 25.0), ("P", "Z", 50.0)]
         common = next(one["geometry"] for one in found if one["properties"] == {"a": "P", "b": "Y", "area": 25.0})
-        self.assertEqual(set(map(tuple, common["coordinates"][0][0])), {(5, 5), (5, 10), (10, 5), (10, 10)})
+        assert set(map(tuple, common["coordinates"][0][0])) == {(5, 5), (5, 10), (10, 5), (10, 10)}
         for how, places in (("intersection", (1, 4)), ("identity", (1, 2, 4)), ("difference", (2,)),
                             ("symmetric_difference", (0, 2, 3))):
-            self.assertEqual(short(self.asked(*words, "--how", how)[1]), [whole[place] for place in places])
+            assert short(self.asked(*words, "--how", how)[1]) == [whole[place] for place in places]
 
     def test_check(self) -> None:
         whole = self.map("a", {"left": [[0, 0], [4, 0], [4, 9], [0, 9], [0, 0]],
@@ -148,15 +145,14 @@ class Tables(WithMaps):
                                "low": [[3, 0], [7, 0], [7, 3], [3, 3], [3, 0]],
                                "top": [[4, 7], [6, 7], [6, 9], [4, 9], [4, 7]]})
         status, rows, errors = self.asked("check", whole, "--factor", 1, "--a-id", "nr")
-        self.assertEqual((status, short(rows)), (0, [[one, "low", "overlaps", 3.0] for one in ("left", "right")]))
-        self.assertIn("2 pairs overlap, and sum to 6, ", errors)
-        self.assertIn("audit: what is covered (73) and what is open are the whole frame, and areas less overlaps\n",
-                      errors)
+        assert (status, short(rows)) == (0, [[one, "low", "overlaps", 3.0] for one in ("left", "right")])
+        assert "2 pairs overlap, and sum to 6, " in errors
+        assert "audit: what is covered (73) and what is open are the whole frame, and areas less overlaps\n" in errors
         self.need_outlines()
         gaps = self.folder / "gaps.geojson"
         status, _, errors = self.asked("check", whole, "--factor", 1, "--a-id", "nr", "--gaps", gaps)
-        self.assertEqual([one["properties"]["area"] for one in json.loads(gaps.read_text())["features"]], [8.0])
-        self.assertIn("1 gaps, and sum to 8; the largest has 8", errors)
+        assert [one["properties"]["area"] for one in json.loads(gaps.read_text())["features"]] == [8.0]
+        assert "1 gaps, and sum to 8; the largest has 8" in errors
 
     def test_derive(self) -> None:
         flood = self.map("f", {"F": square(0, 0, 10)})
@@ -164,28 +160,28 @@ class Tables(WithMaps):
         parks = self.map("p", {"P": square(0, 5, 20)})
         maps = [f"flood={flood}", f"slide={slide}", f"parks={parks}"]
         status, rows, errors = self.asked("derive", "(flood | slide) - parks", *maps)
-        self.assertEqual((status, rows[0], float(rows[1][0])), (0, ["area", "bound"], 75.0), errors)
-        self.assertIn("no map woods; say one of: flood, parks, slide", self.refused("derive", "flood - woods", *maps))
-        self.assertIn("a map is named as NAME=FILE", self.asked("derive", "flood", str(flood))[2])
+        assert (status, rows[0], float(rows[1][0])) == (0, ["area", "bound"], 75.0), errors
+        assert "no map woods; say one of: flood, parks, slide" in self.refused("derive", "flood - woods", *maps)
+        assert "a map is named as NAME=FILE" in self.asked("derive", "flood", str(flood))[2]
         self.need_outlines()
         out = self.folder / "d.geojson"
-        self.assertEqual(self.asked("derive", "(flood | slide) - parks", *maps, "--out", out)[0], 0)
-        self.assertEqual([one["properties"] for one in json.loads(out.read_text())["features"]], [{"area": 75.0}])
+        assert self.asked("derive", "(flood | slide) - parks", *maps, "--out", out)[0] == 0
+        assert [one["properties"] for one in json.loads(out.read_text())["features"]] == [{"area": 75.0}]
 
     def test_a_folder_of_another_question_is_not_gone_on_with(self) -> None:
         whole = self.map("a", {"A": square(0, 0, 10), "B": square(5, 0, 10)})
         words = "check", whole, "--work", self.folder / "work"
-        self.assertEqual(self.asked(*words, "--factor", 1)[0], 0)
-        self.assertEqual(self.asked(*words, "--factor", 1, "--no-audit")[0], 0)
-        self.assertIn("tasks of another run (factor: '1' there, '10' here)", self.refused(*words, "--factor", 10))
+        assert self.asked(*words, "--factor", 1)[0] == 0
+        assert self.asked(*words, "--factor", 1, "--no-audit")[0] == 0
+        assert "tasks of another run (factor: '1' there, '10' here)" in self.refused(*words, "--factor", 10)
 
     def test_three_features_on_each_other_and_one_that_crosses_itself(self) -> None:
         whole = self.map("a", {"A": square(0, 0, 6), "B": square(2, 2, 6), "C": square(4, 0, 6),
                                "bow": [[20, 0], [24, 4], [24, 0], [20, 4], [20, 0]]})
         status, rows, errors = self.asked("check", whole, "--factor", 1, "--a-id", "nr")
-        self.assertEqual((status, [[*row[:2], row[3]] for row in short(rows)]),
-                         (0, [["A", "B", 16.0], ["B", "C", 16.0], ["A", "C", 12.0]]))
-        self.assertIn("overlaps, and 8 lies in three features or more\n", errors)
+        assert (status, [[*row[:2], row[3]] for row in short(rows)]) == \
+            (0, [["A", "B", 16.0], ["B", "C", 16.0], ["A", "C", 12.0]])
+        assert "overlaps, and 8 lies in three features or more\n" in errors
 
     def test_a_wrong_answer_fails_the_audit(self) -> None:
         self.need_outlines()
@@ -200,8 +196,8 @@ class Tables(WithMaps):
 
         with mock.patch.object(pieces, "alone", wrong):
             status, _, errors = self.asked("pieces", a, b, "--factor", 1, "--a-id", "nr", "--b-id", "nr")
-        self.assertIn("audit: 1 features of a are NOT the sum of their pieces: P\n", errors)
-        self.assertEqual(status, 1)
+        assert "audit: 1 features of a are NOT the sum of their pieces: P\n" in errors
+        assert status == 1
 
     def test_a_feature_that_stands_twenty_times(self) -> None:
         self.need_outlines()
@@ -209,25 +205,25 @@ class Tables(WithMaps):
         turned = [ring[at % 4 :] + ring[: at % 4] for at in range(20)]
         b = self.map("b", {f"Z{at}": [*own, own[0]] for at, own in enumerate(turned)})
         status, rows, errors = self.asked("pieces", self.map("a", {"P": square(0, 0, 10)}), b, "--factor", 1)
-        self.assertEqual([row[3] for row in short(rows) if row[2] == "alone"], [75.0])
-        self.assertIn("audit: 1 of 1 features of a are the sum of their pieces\n", errors)
-        self.assertIn("audit: 20 of 20 features of b are the sum of their pieces\n", errors)
-        self.assertEqual(status, 0)
+        assert [row[3] for row in short(rows) if row[2] == "alone"] == [75.0]
+        assert "audit: 1 of 1 features of a are the sum of their pieces\n" in errors
+        assert "audit: 20 of 20 features of b are the sum of their pieces\n" in errors
+        assert status == 0
 
     def test_features_that_lie_deep(self) -> None:
         self.need_outlines()
         b = self.map("b", {f"Z{at}": square(2, 2, 5 + at) for at in range(20)})
         status, rows, errors = self.asked("pieces", self.map("a", {"P": square(0, 0, 10)}), b, "--factor", 1)
-        self.assertEqual((status, [row[3] for row in short(rows) if row[:2] == ["1", ""]]), (0, [36.0]), errors)
+        assert (status, [row[3] for row in short(rows) if row[:2] == ["1", ""]]) == (0, [36.0]), errors
 
     def test_an_island_in_a_hole_and_long_edges(self) -> None:
         ring = {"type": "Polygon", "coordinates": [square(0, 0, 3000), square(1000, 1000, 1000)]}
         a = self.map("a", {"frame": ring, "island": square(1200, 1200, 100)})
         b = self.map("b", {"all": square(-10, -10, 4000)})
         status, rows, errors = self.asked("pairs", a, b, "--factor", 1000, "--bend", "--a-id", "nr", "--b-id", "nr")
-        self.assertEqual(short(rows), [["frame", "all", "within", 8e6], ["island", "all", "within", 1e4]])
-        self.assertIn("12 long edges bent at 60 places, by at most half a unit of the grid", errors)
-        self.assertEqual(status, 0)
+        assert short(rows) == [["frame", "all", "within", 8e6], ["island", "all", "within", 1e4]]
+        assert "12 long edges bent at 60 places, by at most half a unit of the grid" in errors
+        assert status == 0
 
 
 class Refusals(WithMaps):
@@ -240,20 +236,20 @@ class Refusals(WithMaps):
     def line(self, file: pathlib.Path, *words: object) -> str:
         out = self.folder / "out.csv"
         told = self.refused("pairs", self.good, file, "--factor", 1000, *words, "--out", out)
-        self.assertEqual({path.suffix for path in self.folder.iterdir()} - {".geojson", ".json"}, set())
+        assert {path.suffix for path in self.folder.iterdir()} - {".geojson", ".json"} == set()
         return told.replace(f"{self.folder}/", "")
 
     def test_a_property_that_is_not_there(self) -> None:
-        self.assertEqual(self.line(self.map("b", {"Z": square(0, 0, 1), "Y": square(2, 0, 1)}), "--b-id", "code"),
-                         "b.geojson, feature 1: no property code; say one of: nr")
+        assert self.line(self.map("b", {"Z": square(0, 0, 1), "Y": square(2, 0, 1)}), "--b-id", "code") == \
+            "b.geojson, feature 1: no property code; say one of: nr"
         empty = self.map("c", {"Z": square(0, 0, 1), "Y": square(2, 0, 1)})
         empty.write_text(empty.read_text().replace('"Y"', "null"))
-        self.assertEqual(self.line(empty, "--b-id", "nr"),
-                         "c.geojson, feature 2: no nr; say another property, that each feature has")
+        assert self.line(empty, "--b-id", "nr") == \
+            "c.geojson, feature 2: no nr; say another property, that each feature has"
 
     def test_a_ring_that_is_not_closed(self) -> None:
-        self.assertEqual(self.line(self.map("b", {"Z": [[0, 0], [1, 0], [1, 1], [0, 1]]})),
-                         "b.geojson, feature 1: a ring whose last point is not its first, 0 0; mend it there")
+        assert self.line(self.map("b", {"Z": [[0, 0], [1, 0], [1, 1], [0, 1]]})) == \
+            "b.geojson, feature 1: a ring whose last point is not its first, 0 0; mend it there"
         rings = {str(k): square(2 * k, 0, 1)[: 4 + (k == 1)] for k in range(13)}
         self.assertEqual(self.line(self.map("c", rings)),
                          "c.geojson, feature 1: a ring whose last point is not its first, 0 0; mend it there; 11 more "
@@ -261,17 +257,16 @@ class Refusals(WithMaps):
 
     def test_a_coordinate_that_is_none(self) -> None:
         ring: list[Any] = [[0, 0], [1, 0], [1, "x"], [0, 0]]
-        self.assertIn("b.geojson, feature 1: a coordinate that is no number: 'x'; mend it",
-                      self.line(self.map("b", {"Z": ring})))
-        self.assertIn("c.geojson, feature 1: coordinate 1000000000000000.0 is beyond 2^41 units; say --grid 1000, or ",
-                      self.line(self.map("c", {"Z": [[0, 0], [1, 0], [1e15, 1], [0, 0]]})))
-        self.assertIn("coordinates of another form",
-                      self.line(self.map("d", {"Z": {"type": "Polygon", "coordinates": 5}})))
+        assert "b.geojson, feature 1: a coordinate that is no number: 'x'; mend it" in \
+            self.line(self.map("b", {"Z": ring}))
+        assert "c.geojson, feature 1: coordinate 1000000000000000.0 is beyond 2^41 units; say --grid 1000, or " in \
+            self.line(self.map("c", {"Z": [[0, 0], [1, 0], [1e15, 1], [0, 0]]}))
+        assert "coordinates of another form" in self.line(self.map("d", {"Z": {"type": "Polygon", "coordinates": 5}}))
 
     def test_what_is_no_map(self) -> None:
-        self.assertIn("b.json: ", self.line(self.file("b.json", "{")))
-        self.assertIn("a map is GeoJSON", self.line(self.file("b.json", "{")))
-        self.assertIn("No such file", self.refused("pairs", self.good, self.folder / "none.geojson", "--factor", 1))
+        assert "b.json: " in self.line(self.file("b.json", "{"))
+        assert "a map is GeoJSON" in self.line(self.file("b.json", "{"))
+        assert "No such file" in self.refused("pairs", self.good, self.folder / "none.geojson", "--factor", 1)
 
     def test_maps_of_different_coordinates(self) -> None:
         file = self.map("b", {"Z": square(0, 0, 1)}, "urn:ogc:def:crs:EPSG::25832")
@@ -283,9 +278,9 @@ class Refusals(WithMaps):
                         for name, crs in (("u", None), ("v", "urn:ogc:def:crs:EPSG::25832")))
         for one, other in ((unnamed, utm), (utm, unnamed), (unnamed, unnamed)):
             status, rows, errors = self.asked("pairs", one, other, "--factor", 1)
-            self.assertEqual((status, [float(row[3]) for row in rows[1:]]), (0, [1]), errors)
+            assert (status, [float(row[3]) for row in rows[1:]]) == (0, [1]), errors
         degrees = self.map("w", {"Z": square(480000, 5400000, 1)}, "urn:ogc:def:crs:OGC:1.3:CRS84")
-        self.assertIn("w.geojson has coordinates of OGC:CRS84", self.refused("pairs", degrees, utm, "--factor", 1))
+        assert "w.geojson has coordinates of OGC:CRS84" in self.refused("pairs", degrees, utm, "--factor", 1)
 
     def test_a_text_s_srid_is_its_system(self) -> None:
         text = "SRID={};POLYGON ((0 0, 1 0, 0 1, 0 0))\n"
@@ -294,17 +289,17 @@ class Refusals(WithMaps):
             ("utm", (25832, 25832)), ("parted", (25832, 25833)), ("degrees", (4326,)), ("none", (0, "00"))))
         for other, reason in ((self.good, f"{self.good} has coordinates of OGC:CRS84, {utm} of EPSG:25832"),
                               (degrees, f"{degrees} has coordinates of EPSG:4326, {utm} of EPSG:25832")):
-            self.assertIn(reason, self.refused("pairs", other, utm, "--factor", 1))
-        self.assertIn(f"{parted}: SRIDs 25832, 25833; bring", self.refused("check", parted, "--factor", 1))
+            assert reason in self.refused("pairs", other, utm, "--factor", 1)
+        assert f"{parted}: SRIDs 25832, 25833; bring" in self.refused("check", parted, "--factor", 1)
         for one, other in ((utm, utm), (degrees, self.good), (none, utm), (none, self.good)):
-            self.assertEqual(self.asked("pairs", one, other, "--factor", 1)[0], 0)
+            assert self.asked("pairs", one, other, "--factor", 1)[0] == 0
         for odd in ("SRID=x;", "SRID=1.5;", "SRID 4;", "SRID=-1;"):
             file = self.file("odd.wkt", odd + "POLYGON ((0 0, 1 0, 0 1, 0 0))")
-            self.assertIn("odd.wkt: ", self.refused("check", file, "--factor", 1))
+            assert "odd.wkt: " in self.refused("check", file, "--factor", 1)
 
     def test_degrees_by_either_name(self) -> None:
         file = self.map("b", {"Z": square(0, 0, 1)}, "urn:ogc:def:crs:EPSG::4326")
-        self.assertEqual(self.asked("pairs", self.good, file, "--factor", 1000)[0], 0)
+        assert self.asked("pairs", self.good, file, "--factor", 1000)[0] == 0
 
     def test_features_that_are_called_alike_are_told(self) -> None:
         rings = [[[x, 0], [x + 9, 0], [x, 9], [x, 0]] for x in (0, 10, 20, 30)]
@@ -314,20 +309,19 @@ class Refusals(WithMaps):
         whole = self.file("a.json", json.dumps({"type": "FeatureCollection", "features": features}))
         for words, wanted in ((["--a-id", "nr"], True), ([], False)):
             status, _, errors = self.asked("check", whole, "--factor", 1, *words)
-            self.assertEqual((status, f"{whole}: the same nr several times, 1: A (3 times)\n" in errors), (0, wanted),
-                             errors)
-            self.assertNotIn(" of 0 tasks", errors)
+            assert (status, f"{whole}: the same nr several times, 1: A (3 times)\n" in errors) == (0, wanted), errors
+            assert " of 0 tasks" not in errors
 
     def test_what_is_left_out_is_told(self) -> None:
         file = self.map("b", {"Z": square(0, 0, 1), "point": {"type": "Point", "coordinates": [0, 0]},
                               "thin": [[0, 0], [1e-5, 0], [0, 1e-5], [0, 0]]})
         status, rows, errors = self.asked("pairs", self.good, file, "--factor", 1000, "--b-id", "nr")
-        self.assertEqual((status, [row[1] for row in rows[1:]]), (0, ["Z"]))
-        self.assertIn("left out, 1: ", errors)
-        self.assertIn("feature 2 (point): no polygon: POINT\n", errors)
-        self.assertIn("; 1 rings collapsed\n", errors)
+        assert (status, [row[1] for row in rows[1:]]) == (0, ["Z"])
+        assert "left out, 1: " in errors
+        assert "feature 2 (point): no polygon: POINT\n" in errors
+        assert "; 1 rings collapsed\n" in errors
         self.assertRegex(errors, r"nothing is left on the grid of 1: .*b.geojson, feature 3 \(thin\)\n")
-        self.assertIn("rounded to 0.001 degree: no border moves by more than 1e-05 an axis; ", errors)
+        assert "rounded to 0.001 degree: no border moves by more than 1e-05 an axis; " in errors
 
     def test_a_map_without_a_polygon(self) -> None:
         for text, reason in (
@@ -341,8 +335,8 @@ class Refusals(WithMaps):
                  "1: b.json, feature 1: no polygon: a feature without a geom")):
             with self.subTest(text):
                 file = self.file("b.json", text)
-                self.assertIn(reason, self.line(file))
-                self.assertIn("b.json: ", self.refused("check", file, "--factor", 1))
+                assert reason in self.line(file)
+                assert "b.json: " in self.refused("check", file, "--factor", 1)
 
     def test_a_collection_with_a_point_has_its_polygons(self) -> None:
         point: dict[str, Any] = {"type": "Point", "coordinates": [0, 0]}
@@ -352,29 +346,28 @@ class Refusals(WithMaps):
                          "none": {"type": "GeometryCollection", "geometries": [point, point]},
                          "last": square(8, 0, 1)})
         status, rows, errors = self.asked("pairs", self.good, file, "--factor", 1)
-        self.assertEqual((status, [[row[1], float(row[3])] for row in rows[1:]]), (0, [["1", 8], ["3", 1]]))
-        self.assertIn("left out, 4: ", errors)
-        self.assertIn("feature 1, member 2: no polygon: POINT; ", errors)
+        assert (status, [[row[1], float(row[3])] for row in rows[1:]]) == (0, [["1", 8], ["3", 1]])
+        assert "left out, 4: " in errors
+        assert "feature 1, member 2: no polygon: POINT; " in errors
 
     def test_maps_go_by_their_content_and_not_by_their_names(self) -> None:
         text = self.good.read_text()
         for name in ("a.gpkg", "a.txt", "a.shp", "a", "a.csv", "a.GEOJSON", ".json"):
             status, rows, errors = self.asked("pairs", self.file(name, f" \n{text}"), self.good, "--factor", 1)
-            self.assertEqual((status, [float(row[3]) for row in rows[1:]]), (0, [100]), (name, errors))
+            assert (status, [float(row[3]) for row in rows[1:]]) == (0, [100]), (name, errors)
             utm = self.file("utm.wkt", "SRID=25832;POLYGON ((0 0, 1 0, 0 1, 0 0))")
-            self.assertIn("has coordinates of OGC:CRS84", self.refused("pairs", self.folder / name, utm, "--factor", 1))
+            assert "has coordinates of OGC:CRS84" in self.refused("pairs", self.folder / name, utm, "--factor", 1)
         for name in ("a.geojson", "a.json", "a.wkt", "a"):
             for begin in (b"SQLite format 3\0", b"fgb\3", b"\0\0\x27\x0a"):
                 told = self.refused("check", self.file(name, begin + b"\0" * 200), "--factor", 1)
-                self.assertNotIn("a map is GeoJSON", told)
-        self.assertIn("and Well-Known Text have no layers",
-                      self.refused("check", self.good, "--factor", 1, "--a-layer", "x"))
+                assert "a map is GeoJSON" not in told
+        assert "and Well-Known Text have no layers" in self.refused("check", self.good, "--factor", 1, "--a-layer", "x")
 
     def test_a_name_of_no_letter_and_a_folder(self) -> None:
         for words in (("", self.good), (self.good, "")):
-            self.assertEqual(self.refused("pairs", *words, "--factor", 1),
-                             "a map is named by a word without a letter; say a file")
-        self.assertIn(f"{self.folder}: ", self.refused("check", self.folder, "--factor", 1))
+            assert self.refused("pairs", *words, "--factor", 1) == \
+                "a map is named by a word without a letter; say a file"
+        assert f"{self.folder}: " in self.refused("check", self.folder, "--factor", 1)
 
     def test_what_has_no_polygon_takes_a_number_all_the_same(self) -> None:
         one = {"type": "Feature", "properties": {}, "geometry": {"type": "Polygon", "coordinates": [square(0, 0, 10)]}}
@@ -383,30 +376,30 @@ class Refusals(WithMaps):
                     "geometries": [empty, one["geometry"]]}}, 5, one]
         file = self.file("odd.geojson", json.dumps({"type": "FeatureCollection", "features": features}))
         status, rows, errors = self.asked("pairs", file, self.good, "--factor", 1)
-        self.assertEqual((status, [[*row[:2], float(row[3])] for row in rows[1:]]),
-                         (0, [["5", "1", 100], ["7", "1", 100]]), errors)
-        self.assertIn("left out, 6: ", errors)
+        assert (status, [[*row[:2], float(row[3])] for row in rows[1:]]) == \
+            (0, [["5", "1", 100], ["7", "1", 100]]), errors
+        assert "left out, 6: " in errors
         text = "GEOMETRYCOLLECTION EMPTY\nPOLYGON EMPTY\nPOLYGON ((0 0, 10 0, 10 10, 0 10, 0 0))\n"
         status, rows, errors = self.asked("pairs", self.file("odd.wkt", text), self.good, "--factor", 1)
-        self.assertEqual((status, [[*row[:2], float(row[3])] for row in rows[1:]]), (0, [["3", "1", 100]]), errors)
+        assert (status, [[*row[:2], float(row[3])] for row in rows[1:]]) == (0, [["3", "1", 100]]), errors
 
     def test_an_id_is_quoted_where_it_has_a_mark_that_ends_a_line(self) -> None:
         odd = "a\rb\n,\"c"
         file, out = self.map("b", {odd: square(0, 0, 1)}), self.folder / "out.csv"
-        self.assertEqual(self.asked("pairs", file, self.good, "--factor", 1, "--a-id", "nr", "--out", out)[0], 0)
+        assert self.asked("pairs", file, self.good, "--factor", 1, "--a-id", "nr", "--out", out)[0] == 0
         with out.open(newline="") as table:
-            self.assertEqual(list(csv.reader(table))[1][:2], [odd, "1"])
+            assert list(csv.reader(table))[1][:2] == [odd, "1"]
 
     def test_a_program_that_is_none(self) -> None:
         status, output, errors = outcome(pairs, self.good, self.good, "--factor", 1, "--program",
                                          self.folder / "none", "--jobs", 1)
-        self.assertEqual((status, output), (1, ""))
-        self.assertIn("none: No such file", errors)
+        assert (status, output) == (1, "")
+        assert "none: No such file" in errors
 
     def test_a_table_that_cannot_be_written(self) -> None:
         out = self.folder / "no folder" / "out.csv"
         status, _, errors = self.asked("pairs", self.good, self.good, "--factor", 1, "--out", out)
-        self.assertEqual((status, errors), (2, f"--out {out}: no folder {out.parent}\n"))
+        assert (status, errors) == (2, f"--out {out}: no folder {out.parent}\n")
 
 
 class Outputs(WithMaps):
@@ -419,7 +412,7 @@ class Outputs(WithMaps):
 
     def check(self, *words: object) -> str:
         status, rows, errors = self.asked("check", self.whole, "--factor", 1, *words)
-        self.assertEqual((status, rows, self.whole.read_bytes()), (2, [], self.before))
+        assert (status, rows, self.whole.read_bytes()) == (2, [], self.before)
         return errors.replace(f"{self.folder}/", "").strip()
 
     def test_what_must_not_be_written_over_is_refused(self) -> None:
@@ -429,18 +422,18 @@ class Outputs(WithMaps):
         for path in (self.whole, link, hard, self.folder / "x" / ".." / "a.geojson"):
             (self.folder / "x").mkdir(exist_ok=True)
             for word in ("--out", "--gaps"):
-                self.assertIn(": this is the map a.geojson; take another name", self.check(word, path))
-        self.assertEqual(self.check("--out", out, "--gaps", out), "--gaps o.csv: this is --out too; take another name")
+                assert ": this is the map a.geojson; take another name" in self.check(word, path)
+        assert self.check("--out", out, "--gaps", out) == "--gaps o.csv: this is --out too; take another name"
         store = self.file("o.db", b"\0" * 16 + b"OVLSTORE")
-        self.assertEqual(self.check("--out", store), "--out o.db: a store of layers; take another name")
+        assert self.check("--out", store) == "--out o.db: a store of layers; take another name"
         self.file("p.gpkg-journal", b"pages")
         self.assertEqual(self.check("--gaps", self.folder / "p.gpkg"),
                          "--gaps p.gpkg: p.gpkg-journal has changes of it "
                          "that a program has in hand; end that one, or take another name")
-        self.assertIn("no name of a file", self.check("--out", ""))
-        self.assertEqual(self.check("--gaps", self.folder / "x"), "--gaps x: a folder; say a file in it")
-        self.assertIn("is no folder", self.check("--gaps", self.whole / "gaps.geojson"))
-        self.assertFalse(out.exists())
+        assert "no name of a file" in self.check("--out", "")
+        assert self.check("--gaps", self.folder / "x") == "--gaps x: a folder; say a file in it"
+        assert "is no folder" in self.check("--gaps", self.whole / "gaps.geojson")
+        assert not out.exists()
 
     def test_a_link_and_a_neighbour_stay(self) -> None:
         self.need_outlines()
@@ -448,24 +441,24 @@ class Outputs(WithMaps):
         link.symlink_to(real)
         own = [self.file(name, "mine") for name in ("o.csv.new", "real.csv.new", "g.geojson.new")]
         status, _, errors = self.asked("check", self.whole, "--factor", 1, "--out", link, "--gaps", gaps)
-        self.assertEqual((status, link.is_symlink(), real.stat().st_mode & 0o777), (0, True, 0o640), errors)
-        self.assertIn("1,2,overlaps,50.0,", real.read_text())
-        self.assertEqual({file.read_text() for file in own}, {"mine"})
-        self.assertEqual({file.name for file in self.folder.iterdir()},
-                         {"a.geojson", "real.csv", "o.csv", "g.geojson", *(file.name for file in own)})
+        assert (status, link.is_symlink(), real.stat().st_mode & 0o777) == (0, True, 0o640), errors
+        assert "1,2,overlaps,50.0," in real.read_text()
+        assert {file.read_text() for file in own} == {"mine"}
+        assert {file.name for file in self.folder.iterdir()} == \
+            {"a.geojson", "real.csv", "o.csv", "g.geojson", *(file.name for file in own)}
 
     def test_a_pipe_is_written_to(self) -> None:
         pipe = self.folder / "pipe"
         os.mkfifo(pipe)
         with subprocess.Popen(["timeout", "60", "cat", pipe], stdout=subprocess.PIPE, text=True) as reader:
-            self.assertEqual(self.asked("check", self.whole, "--factor", 1, "--out", pipe)[0], 0)
-            self.assertIn("1,2,overlaps,50.0,", reader.communicate(timeout=60)[0])
-        self.assertTrue(pipe.is_fifo())
+            assert self.asked("check", self.whole, "--factor", 1, "--out", pipe)[0] == 0
+            assert "1,2,overlaps,50.0," in reader.communicate(timeout=60)[0]
+        assert pipe.is_fifo()
 
     def test_what_is_broken_off_leaves_what_was_there(self) -> None:
         before = self.file("o.csv", "before")
         with self.assertRaises(KeyboardInterrupt), writing.whole(before) as file:
             file.write("half")
             raise KeyboardInterrupt
-        self.assertEqual({one.name: one.read_bytes() for one in self.folder.iterdir()},
-                         {"o.csv": b"before", "a.geojson": self.before})
+        assert {one.name: one.read_bytes() for one in self.folder.iterdir()} == \
+            {"o.csv": b"before", "a.geojson": self.before}

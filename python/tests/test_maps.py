@@ -40,13 +40,13 @@ class RoundTrips(WithProgram):
         """The store of a map, whose script is map.txt."""
         script = self.folder / "map.txt"
         status, output, errors = outcome(to_script, *files, "--output", script, *words)
-        self.assertEqual((status, output), (0, ""), errors)
+        assert (status, output) == (0, ""), errors
         return self.store("map.db", script.read_bytes())
 
     def features(self, store: pathlib.Path, *words: object) -> dict[str, Any]:
         """The features that overlay export writes of a store, by layer, and the file in map.geojson."""
         status, output, errors = outcome(to_geojson, "--store", store, "--program", self.program, *words)
-        self.assertEqual(status, 0, errors)
+        assert status == 0, errors
         self.file("map.geojson", output)
         return {one["properties"]["layer"]: one for one in json.loads(output)["features"]}
 
@@ -54,28 +54,28 @@ class RoundTrips(WithProgram):
         """The script that comes of what was written."""
         status, output, errors = outcome(to_script, self.folder / "map.geojson", "--name-by", "layer", "--scale",
                                          self.folder / "map.scale.json")
-        self.assertEqual(status, 0, errors)
-        self.assertNotIn("refused", errors)
-        self.assertTrue(all(float(move) < 1e-8 for move in re.findall(r"largest move (\S+),", errors)), errors)
+        assert status == 0, errors
+        assert "refused" not in errors
+        assert all(float(move) < 1e-8 for move in re.findall(r"largest move (\S+),", errors)), errors
         return output
 
     def check(self, files: list[str], *words: object) -> None:
         store = self.made(files, *words)
         areas = area_of_script((self.folder / "map.txt").read_text())
         features = self.features(store)
-        self.assertEqual(list(features), list(areas))
+        assert list(features) == list(areas)
         scale = json.loads((self.folder / "map.scale.json").read_text(), parse_float=Decimal)
         unit = Fraction(scale["factor"]) * Fraction(scale["factor_y"])
         for name, area in areas.items():
-            self.assertEqual(Fraction(features[name]["properties"]["area_exact"]), area / unit)
+            assert Fraction(features[name]["properties"]["area_exact"]) == area / unit
             told = outcome(to_rings, "--store", store, "--program", self.program, "--layer", name, "--areas")[1]
-            self.assertEqual(Fraction(told.split()[-1]), area / unit)
+            assert Fraction(told.split()[-1]) == area / unit
         again = self.back()
-        self.assertEqual(area_of_script(again), areas)
+        assert area_of_script(again) == areas
         other = self.store("again.db", again)
         self.file("again.scale.json", (self.folder / "map.scale.json").read_bytes())
         first, second = self.features(store), self.features(other)
-        self.assertEqual([one["geometry"] for one in first.values()], [one["geometry"] for one in second.values()])
+        assert [one["geometry"] for one in first.values()] == [one["geometry"] for one in second.values()]
 
     def test_two_outlines_of_iceland(self) -> None:
         self.check(ICELAND, "--factor", 42262, "--factor-y", 100000, "--origin", -19, 65)
@@ -99,7 +99,7 @@ class RoundTrips(WithProgram):
         rings = [ring for polygon in wanted for ring in polygon]
         corners = [(Fraction(x, w), Fraction(y, w)) for ring in rings for x, y, w in ring.corners]
         got = [tuple(map(Fraction, line.split())) for line in told.splitlines() if not line.startswith("polygon")]
-        self.assertEqual((len(wanted), got), (2, corners))
+        assert (len(wanted), got) == (2, corners)
 
 
 class Counties(WithProgram):
@@ -109,7 +109,7 @@ class Counties(WithProgram):
         super().setUp()
         script = self.folder / "nc.txt"
         status, _, errors = outcome(to_script, COUNTIES, "--fit", "--name-by", "name", "--output", script)
-        self.assertEqual(status, 0, errors)
+        assert status == 0, errors
         scripts = [self.folder / f"nc.{place}.txt" for place in range(1, 5)]
         self.stores = [self.store(f"nc.{place}.db", one.read_bytes()) for place, one in enumerate(scripts, 1)]
         value = json.loads(pathlib.Path(COUNTIES).read_text(), parse_float=Decimal)
@@ -129,40 +129,40 @@ class Counties(WithProgram):
         points = [(source.randrange(-8432386, -7545697), source.randrange(3388199, 3658965)) for _ in range(400)]
         wanted = [[name for name, segments in self.rings.items() if below(segments, (x, y, 1)) % 2] for x, y in points]
         for place, (x, y) in enumerate(points):
-            self.assertFalse(any(on(segments, (x, y, 1)) for segments in self.rings.values()), place)
-        self.assertGreater(sum(map(len, wanted)), 150)
+            assert not any(on(segments, (x, y, 1)) for segments in self.rings.values()), place
+        assert sum(map(len, wanted)) > 150
         text = "".join(f"{Decimal(x) / 100000} {Decimal(y) / 100000}\n" for x, y in points)
         status, output, errors = self.which("--points", self.file("points.txt", text))
-        self.assertEqual((status, errors), (0, ""))
-        self.assertEqual([line.split("\t") if line else [] for line in output.splitlines()], wanted)
+        assert (status, errors) == (0, "")
+        assert [line.split("\t") if line else [] for line in output.splitlines()] == wanted
 
     def test_on_a_common_border_both_are_named(self) -> None:
         one, other = (set(self.rings[name]) for name in ("Ashe", "Alleghany"))
         ax, ay, bx, by = sorted(one & other)[0]
         point = f"{Decimal(ax + bx) / 200000} {Decimal(ay + by) / 200000}".split()
-        self.assertEqual(self.which("--", *point)[:2], (0, "edge\tAshe\tAlleghany\n"))
+        assert self.which("--", *point)[:2] == (0, "edge\tAshe\tAlleghany\n")
 
 
 class LargeMaps(WithProgram):
     def test_a_ring_of_5000_steps_comes_out_whole(self) -> None:
         ring = zigzag(5000)
         file, script = self.file("long.geojson", geojson(("Long", [[ring]]))), self.folder / "long.txt"
-        self.assertEqual(outcome(to_script, file, "--split", "--name-by", "name", "--output", script)[0], 0)
+        assert outcome(to_script, file, "--split", "--name-by", "name", "--output", script)[0] == 0
         store = self.store("long.db", script.read_bytes())
         words = ["--store", store, "--program", self.program, "--layer", "Long"]
         area = Fraction(outcome(to_rings, *words, "--areas")[1].split()[-1])
-        self.assertEqual(area, abs(Fraction(area_twice(ring[:-1]), 2)))
+        assert area == abs(Fraction(area_twice(ring[:-1]), 2))
         # One ring, and its corners are those at which the given one turns.
         told = outcome(to_rings, *words, "--exact")[1].splitlines()
-        self.assertEqual(told[0], "polygons 1")
+        assert told[0] == "polygons 1"
         around = zip([ring[-2], *ring], ring, ring[1:])
         turns = {here for before, here, after in around if turn((*before, 1), (*here, 1), (*after, 1))}
-        self.assertEqual({tuple(map(int, line.split())) for line in told[2:]}, turns)
+        assert {tuple(map(int, line.split())) for line in told[2:]} == turns
 
     def test_overlapping_polygons_are_united(self) -> None:
         squares = [f"POLYGON (({x} 0, {x + 10} 0, {x + 10} 10, {x} 10, {x} 0))" for x in (0, 5, 14, 40)]
         file, script = self.file("plan.wkt", " ".join(squares)), self.folder / "plan.txt"
-        self.assertEqual(outcome(to_script, file, "--union", "--output", script)[0], 0)
+        assert outcome(to_script, file, "--union", "--output", script)[0] == 0
         store = self.store("plan.db", script.read_bytes())
         told = outcome(to_rings, "--store", store, "--program", self.program, "--areas")[1]
-        self.assertEqual(told, "polygon 1 outer area 240 240\npolygon 2 outer area 100 100\narea 340 340\n")
+        assert told == "polygon 1 outer area 240 240\npolygon 2 outer area 100 100\narea 340 340\n"

@@ -124,7 +124,7 @@ class Judged(unittest.TestCase):
 
     def check_document(self, value: dict[str, Any]) -> Document:
         document = Document(value)
-        self.assertEqual(list(document.faults()), [])
+        assert list(document.faults()) == []
         return document
 
     def check_answer(self, document: Document, told: Told, method: str, path: str) -> None:
@@ -132,9 +132,9 @@ class Judged(unittest.TestCase):
         answers = document.value["paths"][path][method]["responses"]
         answer = answers.get(str(told.status), answers["default"])
         kind = told.headers["Content-Type"]
-        self.assertIn(kind, answer["content"], f"{method} {path}: {told.status}")
+        assert kind in answer["content"], f"{method} {path}: {told.status}"
         schema = answer["content"][kind]["schema"]
-        self.assertEqual(document.against(told.value, schema), [], f"{method} {path}")
+        assert document.against(told.value, schema) == [], f"{method} {path}"
 
 
 class OfLayers(FrontCase, Judged):
@@ -148,7 +148,7 @@ class OfLayers(FrontCase, Judged):
             if "get" not in methods:
                 continue
             words = [document.found(one) for one in methods["get"]["parameters"]]
-            self.assertIn("f", [one["name"] for one in words], path)
+            assert "f" in [one["name"] for one in words], path
             for layer in ("A", "both", "E"):
                 asked = path.format(collectionId=layer, featureId=1)
                 told = self.client.ask(f"{asked}?{'x=-5/3&y=127/3&' if 'locate' in path else ''}f=json")
@@ -161,9 +161,9 @@ class OfLayers(FrontCase, Judged):
         for one, body in (("/collections/new", geometry), ("/collections/new", {"geometry": geometry}),
                           ("/collections/made", {"definition": "A ^ B"})):
             schema = document.value["paths"][layer]["put"]["requestBody"]["content"]["application/json"]["schema"]
-            self.assertEqual(document.against(body, schema), [])
+            assert document.against(body, schema) == []
             told = self.client.ask(one, "PUT", body)
-            self.assertEqual(told.status, 200)
+            assert told.status == 200
             self.check_answer(document, told, "put", layer)
         self.check_answer(document, self.client.ask(one, "DELETE"), "delete", layer)
         self.check_answer(document, self.client.ask(one, "DELETE"), "delete", layer)
@@ -182,23 +182,23 @@ class Judges(unittest.TestCase):
         from overlayd.web.map_api import MapApi
 
         good = openapi.document("t", "http://127.0.0.1", True, (FeaturesApi, MapApi))
-        self.assertEqual(list(Document(good).faults()), [])
+        assert list(Document(good).faults()) == []
         spoilt = (('"operationId": "getApi"', '"operationId": "getStatus"'), ('"in": "path"', '"in": "body"'),
                   ('"required": true', '"required": false'), ('"type": "string"', '"type": "text"'),
                   ('"3.0.3"', '"3.1.0"'), ('"description": "refused"', '"description": ""'), ('"items": ', '"item": '),
                   ('{featureId}', '{id}'), ('"schema": {"$ref"', '"schema": {"type": "array", "$ref"'))
         for old, new in spoilt:
             text = json.dumps(good)
-            self.assertIn(old, text)
+            assert old in text
             with self.subTest(new), self.assertRaises((AssertionError, KeyError)):
-                self.assertEqual(list(Document(json.loads(text.replace(old, new))).faults()), [])
+                assert list(Document(json.loads(text.replace(old, new))).faults()) == []
 
     def test_values_that_are_not_of_a_schema_are_found(self) -> None:
         document = Document({"components": {"schemas": schemas.SCHEMAS}})
         geometry = {"type": "Polygon", "coordinates": [[[0, 0], [1, 0], [1, 1], [0, 0]]]}
         good = {"type": "Feature", "id": 1, "geometry": geometry, "properties": {}}
-        self.assertEqual(document.against(good, schemas.ref("feature")), [])
+        assert document.against(good, schemas.ref("feature")) == []
         for name, value in (("type", "Point"), ("id", None), ("id", -1), ("geometry", None), ("properties", []),
                             ("geometry", {**geometry, "type": "MultiPolygon"}), ("links", [{"rel": "self"}]),
                             ("geometry", {**geometry, "coordinates": [[[0, 0], [1, 0], [0, 0]]]})):
-            self.assertTrue(document.against({**good, name: value}, schemas.ref("feature")), name)
+            assert document.against({**good, name: value}, schemas.ref("feature")), name

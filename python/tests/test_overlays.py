@@ -91,21 +91,21 @@ class ManyRings(unittest.TestCase):
         pieces = [piece for ring in rings for piece in ring_pieces(ring)]
         begin = time.process_time()
         found = polygons_of(pieces)
-        self.assertLess(time.process_time() - begin, 10)
+        assert time.process_time() - begin < 10
         return found
 
     def test_nested_rings(self) -> None:
         for shape in (square, diamond):
             polygons = self.polygons([shape(0, 0, half) for half in range(1, 1201)])
             halves = [[max(x for x, _, _ in ring.corners) for ring in polygon] for polygon in polygons]
-            self.assertEqual(halves, [[half, half - 1] for half in range(1200, 0, -2)])
+            assert halves == [[half, half - 1] for half in range(1200, 0, -2)]
 
     def test_scattered_holes_and_islands(self) -> None:
         places = [(8 * i, 8 * j) for i in range(60) for j in range(60)]
         rings = [shape(x, y, half) for x, y in places for shape, half in ((square, 3), (diamond, 2))]
         polygons = self.polygons([square(240, 240, 300), *rings])
-        self.assertEqual(sorted(len(polygon) for polygon in polygons), [1] * 3600 + [3601])
-        self.assertEqual([len(polygon) for polygon in polygons if polygon[0].corners[0] == (-60, -60, 1)], [3601])
+        assert sorted(len(polygon) for polygon in polygons) == [1] * 3600 + [3601]
+        assert [len(polygon) for polygon in polygons if polygon[0].corners[0] == (-60, -60, 1)] == [3601]
 
 
 class ProgramBeside(WithProgram):
@@ -119,6 +119,6 @@ class ProgramBeside(WithProgram):
             with opened(self.program) as session:
                 columns = layers.columns_of(session, "C", [*puts, f"DEFINE C = A {operation} B"])
             pieces, missing = layers.pieces_of(columns)
-            self.assertEqual(missing, [])
-            self.assertEqual(sorted(pieces), sorted(overlay(given, operation)))
+            assert missing == []
+            assert sorted(pieces) == sorted(overlay(given, operation))
             check(self, given, OPERATIONS[operation], polygons_of(pieces))

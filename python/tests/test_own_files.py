@@ -28,39 +28,39 @@ class OwnFiles(InFolder):
         source = self.file("plan.geojson", PLAN)
         mine = self.file("out.scale.json", MINE)
         status, told = self.ran("import", source, "--output", self.folder / "out.txt")
-        self.assertEqual((status, mine.read_text()), (2, MINE), told)
-        self.assertIn(f"--output: {mine} stands, and is no file of this tool's", told)
-        self.assertFalse((self.folder / "out.txt").exists())
+        assert (status, mine.read_text()) == (2, MINE), told
+        assert f"--output: {mine} stands, and is no file of this tool's" in told
+        assert not (self.folder / "out.txt").exists()
         mine.unlink()
         for _ in range(2):  # what it has written itself it replaces
-            self.assertEqual(self.ran("import", source, "--output", self.folder / "out.txt")[0], 0)
-            self.assertTrue(mine.is_file())
+            assert self.ran("import", source, "--output", self.folder / "out.txt")[0] == 0
+            assert mine.is_file()
 
     def test_a_scale_that_the_user_has_edited(self) -> None:
         """It is of the tool's form, and belongs to no script where none of the output's name is there."""
         source, output, mine = self.file("plan.wkt", SQUARE), self.folder / "out.txt", self.folder / "out.scale.json"
         words = "import", source, "--output", output
-        self.assertEqual([self.ran(*words)[0] for _ in range(2)], [0, 0])
+        assert [self.ran(*words)[0] for _ in range(2)] == [0, 0]
         output.unlink()
-        self.assertEqual(self.ran(*words)[0], 0)  # the same is no loss
+        assert self.ran(*words)[0] == 0
         output.unlink()
         edited = mine.read_text().replace('"factor"', '"title": "Mine", "factor"')
         mine.write_text(edited)
         status, told = self.ran(*words)
-        self.assertEqual((status, mine.read_text() == edited, output.exists()), (2, True, False), told)
+        assert (status, mine.read_text() == edited, output.exists()) == (2, True, False), told
         self.assertIn(
             f"--output: {mine} stands, would be written otherwise, and belongs to no script, as {output} is not "
             "there as one: it was not named, and is not written over; take another name, or move it away", told)
         output.write_text("PUT plan POLYGON ((0 0, 1 0, 1 1, 0 0))\n")
-        self.assertEqual(self.ran(*words)[0], 0)
-        self.assertNotEqual(mine.read_text(), edited)
+        assert self.ran(*words)[0] == 0
+        assert mine.read_text() != edited
 
     def test_a_scale_that_is_given_may_have_the_name_of_the_output(self) -> None:
         source, given = self.file("plan.wkt", SQUARE), self.file("out.scale.json", '{"title": "out", "factor": 10}')
         words = "import", source, "--output", self.folder / "out.txt"
-        self.assertEqual(self.ran(*words)[0], 2)
+        assert self.ran(*words)[0] == 2
         status, told = self.ran(*words, "--scale", given)
-        self.assertEqual(status, 0, told)
+        assert status == 0, told
 
     def test_scripts_of_several_stores_that_are_the_users(self) -> None:
         """NAME.1.txt and so on are not named by --output NAME.txt."""
@@ -70,12 +70,12 @@ class OwnFiles(InFolder):
         words = "import", source, "--name-by", "n", "--factor", 1, "--output", self.folder / "out.txt"
         mine = self.file("out.2.txt", MINE)
         status, told = self.ran(*words)
-        self.assertEqual((status, mine.read_text(), len(list(self.folder.iterdir()))), (2, MINE, 2), told)
-        self.assertIn(f"--output: {mine} stands, and is no file of this tool's", told)
+        assert (status, mine.read_text(), len(list(self.folder.iterdir()))) == (2, MINE, 2), told
+        assert f"--output: {mine} stands, and is no file of this tool's" in told
         mine.unlink()
         for _ in range(2):
-            self.assertEqual(self.ran(*words)[0], 0)
-        self.assertTrue(mine.read_text().startswith("PUT "))
+            assert self.ran(*words)[0] == 0
+        assert mine.read_text().startswith("PUT ")
 
     def test_what_a_kill_leaves_goes_at_the_next_start(self) -> None:
         source = self.file("plan.wkt", SQUARE)
@@ -87,12 +87,12 @@ class OwnFiles(InFolder):
             assert killed.stdout
             killed.stdout.readline()
             (left,) = self.folder.glob(".*.new")
-            self.assertEqual(self.ran("import", source, "--output", self.folder / "out.txt")[0], 0)
-            self.assertTrue(left.exists())  # of one that is at work
+            assert self.ran("import", source, "--output", self.folder / "out.txt")[0] == 0
+            assert left.exists()
             killed.send_signal(signal.SIGKILL)
         others = self.file(f".out.txt.{'0' * 32}.{killed.pid}.1.new", MINE)  # of another machine
-        self.assertEqual(self.ran("import", source, "--output", self.folder / "out.txt")[0], 0)
-        self.assertEqual(list(self.folder.glob(".*.new")), [others])
+        assert self.ran("import", source, "--output", self.folder / "out.txt")[0] == 0
+        assert list(self.folder.glob(".*.new")) == [others]
 
 
 class OwnPieces(InFolder):
@@ -121,8 +121,8 @@ class OwnPieces(InFolder):
         for name in ("pieces-001.gpkg", "pieces-002.gpkg", "pieces.vrt"):
             mine = self.file(name, MINE)
             status, told = self.overlaid(2)
-            self.assertEqual((status, mine.read_text(), self.names()), (2, MINE, {name}), told)
-            self.assertIn(f"{mine} stands, and was not named", told)
+            assert (status, mine.read_text(), self.names()) == (2, MINE, {name}), told
+            assert f"{mine} stands, and was not named" in told
             mine.unlink()
 
     def test_of_an_earlier_run_its_own_parts_alone_go(self) -> None:
@@ -130,11 +130,11 @@ class OwnPieces(InFolder):
         parts = {mine.name, "pieces-001.gpkg", "pieces-002.gpkg", "pieces.vrt"}
         for part_max, wanted in ((2, parts), (2, parts), (3, {mine.name, "pieces.gpkg"}), (2, parts)):
             status, told = self.overlaid(part_max)
-            self.assertEqual((status, self.names(), mine.read_text()), (0, wanted, MINE), told)
+            assert (status, self.names(), mine.read_text()) == (0, wanted, MINE), told
 
     def test_an_index_of_other_files_and_what_lies_beside_it_stay(self) -> None:
         index = self.file("pieces.vrt", "<OGRVRTDataSource><SrcDataSource>../zones.gpkg</SrcDataSource>")
         mine, before = self.file("pieces-002.gpkg", MINE), index.read_text()
         status, told = self.overlaid(3)
-        self.assertEqual((status, self.names()), (0, {index.name, mine.name, "pieces.gpkg"}), told)
-        self.assertEqual((index.read_text(), mine.read_text()), (before, MINE))
+        assert (status, self.names()) == (0, {index.name, mine.name, "pieces.gpkg"}), told
+        assert (index.read_text(), mine.read_text()) == (before, MINE)

@@ -39,15 +39,15 @@ class Pages(WithProgram):
         environment = self.environment()
         for page in PAGES:
             commands = commands_of(pathlib.Path(TOP, "examples", page).read_text())
-            self.assertGreater(len(commands), 2)
+            assert len(commands) > 2
             for command, wanted in commands:
                 done = subprocess.run(["bash", "-c", command], cwd=self.folder, env=environment, capture_output=True,
                                       text=True, check=False, timeout=SECONDS)
-                self.assertEqual(done.stdout, wanted, f"{page}: {command}\n{done.stderr}")
+                assert done.stdout == wanted, f"{page}: {command}\n{done.stderr}"
 
     def test_every_script_of_the_pages_is_there(self) -> None:
         table = pathlib.Path(TOP, "examples", "README.md").read_text()
         names = [name for row in re.findall(r"^\| .* \| ([a-z, -]*) \|$", table, re.M)
                  for name in re.split(r", | with ", row)]
-        self.assertGreater(len(names), 20)
-        self.assertEqual([name for name in names if not (TOP / "examples" / f"{name}.txt").is_file()], [])
+        assert len(names) > 20
+        assert [name for name in names if not (TOP / "examples" / f"{name}.txt").is_file()] == []

@@ -20,17 +20,17 @@ class Pictures(unittest.TestCase):
     def test_a_picture_is_xml(self) -> None:
         for layer in ("I", "F", "Bow", "Ring", "Chain", "None0", "Far"):
             text, faults = self.picture(layer)
-            self.assertEqual(faults, [])
-            self.assertTrue(xml.etree.ElementTree.fromstring(text).tag.endswith("svg"))
+            assert faults == []
+            assert xml.etree.ElementTree.fromstring(text).tag.endswith("svg")
 
     def test_columns_and_their_pieces(self) -> None:
         text, _ = self.picture("Ring")
         for column in ("column 13: ", "column 15: ", "column 16: ", "column 18: "):
-            self.assertIn(column, text)
+            assert column in text
 
     def test_a_column_that_lacks_is_reported(self) -> None:
         text, faults = self.picture("A")
-        self.assertEqual(len(faults), limits.COLUMNS)
+        assert len(faults) == limits.COLUMNS
         xml.etree.ElementTree.fromstring(text)
 
     def test_a_base_layer(self) -> None:
@@ -38,7 +38,7 @@ class Pictures(unittest.TestCase):
         columns[16] = [((0, 0, 1), (0, 10, 1)), ((0, 0, 1), (10, 0, 1)), ((0, 10, 1), (10, 10, 1)),
                        ((10, 0, 1), (10, 10, 1))]
         text = svg.picture(Layers.of([layer_of(f"A {SQUARE}")]), "A", columns, 800, self.fail)
-        self.assertIn(">boundary of A</text>", text)
+        assert ">boundary of A</text>" in text
         xml.etree.ElementTree.fromstring(text)
 
     def test_a_bar_of_the_scale(self) -> None:
@@ -46,21 +46,21 @@ class Pictures(unittest.TestCase):
         foot = scale.Scale(Fraction(10), Fraction(10), unit="ft")
         layers, columns = fixture("shapes")
         text = svg.picture(layers, "I", columns["I"], 800, self.fail, foot)
-        self.assertIn(">0.2 ft; lower left 0 0, upper right 1.5 1.5</text>", text)
+        assert ">0.2 ft; lower left 0 0, upper right 1.5 1.5</text>" in text
 
     def test_a_grid(self) -> None:
         layers, columns = fixture("shapes")
         for rows, counts in ((["...+", ".##+", ".##+", "++++"], [4, 7, 5]), ([".#+"], [1, 1, 1])):
             text = svg.picture(layers, "I", columns["I"], 800, self.fail, grid=(4, 4, 2, rows))
-            self.assertEqual([text.count(f'r="{size}"') for size in ("2", "2.2", "0.7")], counts)
+            assert [text.count(f'r="{size}"') for size in ("2", "2.2", "0.7")] == counts
 
     def test_the_grid_that_is_asked_for(self) -> None:
-        self.assertIsNone(svg.grid_for(Layers(), 5))
+        assert svg.grid_for(Layers(), 5) is None
         layers = Layers.of(map(layer_of, (f"A {SQUARE}", "B MULTIPOLYGON EMPTY")))
-        self.assertEqual(svg.grid_for(layers, 5), (0, 0, 2, 6, 6))
-        self.assertEqual(svg.grid_for(layers, 256), (0, 0, 1, 11, 11))
+        assert svg.grid_for(layers, 5) == (0, 0, 2, 6, 6)
+        assert svg.grid_for(layers, 256) == (0, 0, 1, 11, 11)
 
     def test_the_picture_of_the_pages(self) -> None:
         layers, columns = fixture("iceland")
-        self.assertEqual(svg.picture(layers, "both", columns["both"], 800, self.fail).encode(),
-                         content("..", "..", "docs", "overlay.svg"))
+        assert svg.picture(layers, "both", columns["both"], 800, self.fail).encode() == \
+            content("..", "..", "docs", "overlay.svg")

@@ -72,39 +72,35 @@ class Processes(unittest.TestCase):
 
     def test_it_changes_a_store_durably_and_ends_by_a_signal(self) -> None:
         with running("--store", self.store, "--writable") as (run, address):
-            self.assertEqual(asked(address, "GET", "/status")[1]["durable"], 1)
-            self.assertEqual(
-                asked(address, "PUT", "/collections/N", b'{"definition": "I"}')[1],
-                {"version": 2, "durable": 2, "moved": 0.0},
-            )
-            self.assertEqual(asked(address, "GET", "/collections/N/items")[1]["features"][0]["properties"]["area"], 1)
-            self.assertEqual(asked(address, "GET", "/locate?x=0.5&y=0.5")[1]["asked"], [5, 5, 1])
+            assert asked(address, "GET", "/status")[1]["durable"] == 1
+            assert asked(address, "PUT", "/collections/N", b'{"definition": "I"}')[1] == \
+                {"version": 2, "durable": 2, "moved": 0.0}
+            assert asked(address, "GET", "/collections/N/items")[1]["features"][0]["properties"]["area"] == 1
+            assert asked(address, "GET", "/locate?x=0.5&y=0.5")[1]["asked"] == [5, 5, 1]
             run.send_signal(signal.SIGTERM)
-            self.assertEqual(self.ended(run), (0, ""))
+            assert self.ended(run) == (0, "")
         with Server(self.store, program=testing.PROGRAM) as server:
-            self.assertEqual(server.sessions[0].sync(), 2)
+            assert server.sessions[0].sync() == 2
 
     def test_an_interrupt_of_the_terminal_ends_it_in_order(self) -> None:
         with running("--store", self.store, "--writable") as (run, address):
             asked(address, "GET", "/collections/I/items")
             os.killpg(run.pid, signal.SIGINT)  # a terminal sends it to all that the front began
-            self.assertEqual(self.ended(run), (0, ""))
+            assert self.ended(run) == (0, "")
 
     def test_several_fronts_read_one_store(self) -> None:
         before = self.store.read_bytes()
         with running("--store", self.store) as (_, first), running("--store", self.store) as (_, second):
             for address in (first, second):
                 status = asked(address, "GET", "/status")[1]
-                self.assertEqual(
-                    (status["version"], status["durable"], status["writable"], status["title"]), (1, 1, False, "T")
-                )
-                self.assertEqual(asked(address, "GET", "/collections/I/items")[1]["numberMatched"], 1)
-                self.assertEqual(asked(address, "DELETE", "/collections/I")[0], 403)
+                assert (status["version"], status["durable"], status["writable"], status["title"]) == (1, 1, False, "T")
+                assert asked(address, "GET", "/collections/I/items")[1]["numberMatched"] == 1
+                assert asked(address, "DELETE", "/collections/I")[0] == 403
             with running("--store", self.store, "--writable") as (run, address):
                 status, text = self.ended(run)
-                self.assertEqual((address, status, text.count("\n")), ("", 1, 1))
-                self.assertTrue(text.startswith(f"{self.store}: error 30 device"), text)
-        self.assertEqual(self.store.read_bytes(), before)
+                assert (address, status, text.count("\n")) == ("", 1, 1)
+                assert text.startswith(f"{self.store}: error 30 device"), text
+        assert self.store.read_bytes() == before
 
     def test_it_ends_where_the_program_has_ended(self) -> None:
         with running("--store", self.store, "--writable") as (run, address):
@@ -113,41 +109,41 @@ class Processes(unittest.TestCase):
                 pid for pid in children(run.pid)
                 if f"--store\0{self.store}" in pathlib.Path(f"/proc/{pid}/cmdline").read_text()
             ]
-            self.assertEqual(len(found), 1)
+            assert len(found) == 1
             os.kill(found[0], signal.SIGKILL)
-            self.assertEqual(self.ended(run), (1, "overlay_live has ended with status -9\n"))
+            assert self.ended(run) == (1, "overlay_live has ended with status -9\n")
 
     def test_it_ends_where_the_program_of_base_layers_has_ended(self) -> None:
         with running("--store", self.store, "--writable") as (run, address):
-            self.assertEqual(asked(address, "GET", "/collections/A/items")[0], 200)
+            assert asked(address, "GET", "/collections/A/items")[0] == 200
             found = [
                 pid for pid in children(run.pid)
                 if pathlib.Path(f"/proc/{pid}/cmdline").read_text().startswith(f"{testing.PROGRAM}\0/dev/fd/")
             ]
-            self.assertEqual(len(found), 1)
+            assert len(found) == 1
             os.kill(found[0], signal.SIGKILL)
             told = "overlay_live, by which base layers are worked out, has ended with status -9\n"
-            self.assertEqual(self.ended(run), (1, told))
+            assert self.ended(run) == (1, told)
 
     def test_a_copy_takes_the_place_of_a_store_that_is_not_written_any_more(self) -> None:
         program = testing.program_that_ignores_a_full_file(self.folder)
         with running("--store", self.store, "--writable", "--program", program) as (run, address):
-            self.assertEqual(asked(address, "PUT", "/collections/N", b'{"definition": "I"}')[1]["durable"], 2)
+            assert asked(address, "PUT", "/collections/N", b'{"definition": "I"}')[1]["durable"] == 2
             (pid,) = [
                 pid for pid in children(run.pid)
                 if f"--store\0{self.store}" in pathlib.Path(f"/proc/{pid}/cmdline").read_text()
             ]
             resource.prlimit(pid, resource.RLIMIT_FSIZE, (0, resource.RLIM_INFINITY))
             status, value = asked(address, "PUT", "/collections/M", b'{"definition": "I"}')
-            self.assertEqual((status, value["version"]), (503, 3))
+            assert (status, value["version"]) == (503, 3)
             status, told = self.ended(run)
-            self.assertEqual(status, 1)
-            self.assertIn("the store is not written any more: error 30 device; a copy is in its place", told)
+            assert status == 1
+            assert "the store is not written any more: error 30 device; a copy is in its place" in told
         with running("--store", self.store, "--writable") as (run, address):
             status = asked(address, "GET", "/status")[1]
-            self.assertEqual((status["version"], status["durable"], status["layers"], status["lost"]), (2, 2, 3, []))
-            self.assertEqual(asked(address, "PUT", "/collections/M", b'{"definition": "I"}')[1]["durable"], 3)
-        self.assertEqual(sorted(path.name for path in self.folder.glob("map.db*")), ["map.db"])
+            assert (status["version"], status["durable"], status["layers"], status["lost"]) == (2, 2, 3, [])
+            assert asked(address, "PUT", "/collections/M", b'{"definition": "I"}')[1]["durable"] == 3
+        assert sorted(path.name for path in self.folder.glob("map.db*")) == ["map.db"]
 
     def test_with_fewer_files_it_has_fewer_places_and_says_how_many(self) -> None:
         for files, told in (
@@ -159,16 +155,16 @@ class Processes(unittest.TestCase):
                     for _ in range(270):
                         links.enter_context(socket.create_connection((host, int(port)), 60)).sendall(
                             b"GET /status HTTP/1.1\r\n")
-                    self.assertEqual(asked(address, "GET", "/status")[0], 200)
+                    assert asked(address, "GET", "/status")[0] == 200
                 run.terminate()
-                self.assertEqual(self.ended(run), (0, told))
+                assert self.ended(run) == (0, told)
 
     def test_it_begins_a_store(self) -> None:
         with running("--store", self.folder / "new.db", "--create", "--writable") as (_, address):
-            self.assertEqual(asked(address, "GET", "/status")[1]["version"], 0)
-            self.assertEqual(asked(address, "GET", "/collections")[1]["collections"], [])
+            assert asked(address, "GET", "/status")[1]["version"] == 0
+            assert asked(address, "GET", "/collections")[1]["collections"] == []
         with running("--writable") as (_, address):
-            self.assertEqual(asked(address, "GET", "/status")[1]["durable"], None)
+            assert asked(address, "GET", "/status")[1]["durable"] is None
 
     def test_stores_and_scales_that_cannot_be_opened(self) -> None:
         tries: list[tuple[list[str | pathlib.Path], str]] = [
@@ -180,15 +176,15 @@ class Processes(unittest.TestCase):
         for words, told in tries:
             with running(*words) as (run, address):
                 status, text = self.ended(run)
-                self.assertEqual((status, address), (1, ""))
-                self.assertIn(told, text)
-                self.assertEqual(text.count("\n"), 1, text)
+                assert (status, address) == (1, "")
+                assert told in text
+                assert text.count("\n") == 1, text
 
     def test_a_program_that_is_not_there_is_told_by_its_name(self) -> None:
         absent = self.folder / "nofile"
         for words in (["--store", self.store], ["--writable"]):
             with running(*words, "--program", absent) as (run, _):
-                self.assertEqual(self.ended(run), (1, f"{absent}: No such file or directory\n"))
+                assert self.ended(run) == (1, f"{absent}: No such file or directory\n")
 
     def test_a_package_that_is_missing_is_named_with_the_line_to_type(self) -> None:
         scale = self.folder / "projected.json"
@@ -196,7 +192,7 @@ class Processes(unittest.TestCase):
         for module in ("flask", "waitress", "cachetools", "pyproj"):
             told = f"python3-{module} is missing: apt-get install python3-{module}, and run this by /usr/bin/python3"
             run = started("--store", self.store, "--scale", scale, lacking=module)
-            self.assertEqual(self.ended(run), (1, f"overlay serve: {told}\n"))
+            assert self.ended(run) == (1, f"overlay serve: {told}\n")
 
     def test_addresses_at_which_nobody_can_listen(self) -> None:
         with socket.create_server(("127.0.0.1", 0)) as other:
@@ -213,18 +209,17 @@ class Processes(unittest.TestCase):
             for words, told in tries:
                 with running(*words) as (run, address):
                     status, text = self.ended(run)
-                    self.assertEqual((status, address), (1, ""), words)
-                    self.assertEqual((text[: len(told)], text.count("\n")), (told, 1), text)
+                    assert (status, address) == (1, ""), words
+                    assert (text[: len(told)], text.count("\n")) == (told, 1), text
 
     def test_files_come_whole_and_in_part(self) -> None:
         wanted = (PAGE / "map.js").read_bytes()
         with running("--store", self.store) as (_, address):
             with urllib.request.urlopen(f"{address}map.js") as whole:
-                self.assertEqual(
-                    (whole.read(), whole.headers["Content-Type"].split(";")[0]), (wanted, "text/javascript"))
+                assert (whole.read(), whole.headers["Content-Type"].split(";")[0]) == (wanted, "text/javascript")
             given = urllib.request.Request(f"{address}map.js", headers={"Range": "bytes=100-"})
             with urllib.request.urlopen(given) as rest:
-                self.assertEqual((rest.status, rest.read()), (206, wanted[100:]))
+                assert (rest.status, rest.read()) == (206, wanted[100:])
 
     def test_words(self) -> None:
         for line in (
@@ -236,20 +231,20 @@ class Processes(unittest.TestCase):
         ):
             with running(*line.split()) as (run, _):
                 status, text = self.ended(run)
-                self.assertEqual((status, "Traceback" in text), (2, False), line)
+                assert (status, "Traceback" in text) == (2, False), line
         words = words_of(overlay_web.command, ["--store", "map.db", "--host", "10.1.2.3", "--name", "Map.Example.Org"])
-        self.assertEqual(overlay_web.hosts_of(words), {"10.1.2.3", "map.example.org"})
+        assert overlay_web.hosts_of(words) == {"10.1.2.3", "map.example.org"}
         words = words_of(overlay_web.command, ["--store", "map.db", "--host", "127.0.0.2"])
-        self.assertEqual(overlay_web.hosts_of(words), {"127.0.0.2", "127.0.0.1", "localhost", "[::1]"})
+        assert overlay_web.hosts_of(words) == {"127.0.0.2", "127.0.0.1", "localhost", "[::1]"}
         self.assertTrue(
             overlay_web.is_loopback("127.8.8.8") and overlay_web.is_loopback("::1")
             and overlay_web.is_loopback("localhost")
         )
-        self.assertFalse(overlay_web.is_loopback("localhost.example") or overlay_web.is_loopback("0.0.0.0"))
+        assert not (overlay_web.is_loopback("localhost.example") or overlay_web.is_loopback("0.0.0.0"))
 
     def test_a_question_that_does_not_end_holds_up_no_other(self) -> None:
         with running("--store", self.store, "--writable") as (_, address):
             parts = urllib.parse.urlsplit(address)
             with socket.create_connection((parts.hostname, parts.port or 80)) as stuck:
                 stuck.sendall(b"GET /status HTTP/1.1\r\nHost:")
-                self.assertEqual(asked(address, "GET", "/status")[0], 200)
+                assert asked(address, "GET", "/status")[0] == 200

@@ -30,17 +30,17 @@ class Progresses(InFolder):
         while not told.endswith(b"many.txt\r\n"):
             told += os.read(reader, 65536)
         os.close(reader)
-        self.assertEqual((done.returncode, done.stdout), (0, b""))
+        assert (done.returncode, done.stdout) == (0, b"")
         self.assertRegex(told, rb"rounding features:  *[0-9]+%.*/300 ")
 
     def test_nothing_elsewhere(self) -> None:
         done = subprocess.run(self.call(), cwd=TOP, env=SOURCES, capture_output=True,
                               text=True, check=True, timeout=SECONDS)
-        self.assertEqual((done.stdout, "features: " in done.stderr), ("", False), done.stderr)
+        assert (done.stdout, "features: " in done.stderr) == ("", False), done.stderr
 
     def test_a_package_that_is_missing_is_named(self) -> None:
         call = self.call("sys.modules['tqdm'] = None")
         done = subprocess.run(call, cwd=TOP, env=SOURCES, capture_output=True, text=True, check=False, timeout=SECONDS)
         told = "python3-tqdm is missing: apt-get install python3-tqdm, and run this by /usr/bin/python3"
-        self.assertEqual((done.returncode, done.stdout), (1, ""))
-        self.assertEqual(done.stderr, f"overlay import: {told}\n")
+        assert (done.returncode, done.stdout) == (1, "")
+        assert done.stderr == f"overlay import: {told}\n"

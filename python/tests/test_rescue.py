@@ -28,23 +28,23 @@ class Copies(unittest.TestCase):
         self.before, self.file = self.store.read_bytes(), self.store.stat().st_ino
 
     def is_left(self) -> None:
-        self.assertEqual((self.store.read_bytes(), self.store.stat().st_ino), (self.before, self.file))
-        self.assertEqual([path.name for path in self.folder.iterdir()], ["map.db"])
+        assert (self.store.read_bytes(), self.store.stat().st_ino) == (self.before, self.file)
+        assert [path.name for path in self.folder.iterdir()] == ["map.db"]
 
     def test_a_copy_is_another_file_with_the_same_layers(self) -> None:
         put_copy(self.store, testing.PROGRAM)
-        self.assertNotEqual(self.store.stat().st_ino, self.file)
-        self.assertEqual(self.store.stat().st_mode & 0o777, 0o640)
-        self.assertEqual([path.name for path in self.folder.iterdir()], ["map.db"])
+        assert self.store.stat().st_ino != self.file
+        assert self.store.stat().st_mode & 0o777 == 0o640
+        assert [path.name for path in self.folder.iterdir()] == ["map.db"]
         with Server(self.store, program=testing.PROGRAM) as server:
-            self.assertEqual([layer.name for layer in server.sessions[0].layers()], ["A", "I"])
+            assert [layer.name for layer in server.sessions[0].layers()] == ["A", "I"]
 
     def test_a_link_to_a_store_stays_one(self) -> None:
         link = self.folder / "link.db"
         link.symlink_to(self.store)
         put_copy(link, testing.PROGRAM)
-        self.assertTrue(link.is_symlink())
-        self.assertNotEqual(self.store.stat().st_ino, self.file)
+        assert link.is_symlink()
+        assert self.store.stat().st_ino != self.file
 
     def test_without_room_nothing_is_copied(self) -> None:
         with unittest.mock.patch("shutil.disk_usage", return_value=unittest.mock.Mock(free=1)):
@@ -93,23 +93,23 @@ class Rescues(unittest.TestCase):
         self.enterContext(unittest.mock.patch.object(rescue, "AGAIN", 0.01))
         resource.prlimit(self.server.process.pid, resource.RLIMIT_FSIZE, (0, resource.RLIM_INFINITY))
         found = self.client.ask("/collections/D", "PUT", {"definition": "A"})
-        self.assertEqual((found.status, found.value["version"]), (503, 2))
+        assert (found.status, found.value["version"]) == (503, 2)
         for _ in range(3):
             found = self.client.ask("/collections/E", "PUT", {"definition": "A"})
-            self.assertEqual((found.status, found.headers["Retry-After"]), (503, "5"))
-            self.assertIn("nothing is changed: the store is not written any more", found.value["description"])
+            assert (found.status, found.headers["Retry-After"]) == (503, "5")
+            assert "nothing is changed: the store is not written any more" in found.value["description"]
         testing.wait_until(lambda: "are free" in self.client.get("/status")["lost"][0])
-        self.assertEqual(self.client.get("/locate?x=5&y=5")["places"], {"A": "in", "D": "in"})
-        self.assertFalse(self.ended.is_set())
+        assert self.client.get("/locate?x=5&y=5")["places"] == {"A": "in", "D": "in"}
+        assert not self.ended.is_set()
         room.set()
-        self.assertTrue(self.ended.wait(60))
-        self.assertEqual(len(self.reasons), 1)
+        assert self.ended.wait(60)
+        assert len(self.reasons) == 1
         self.server.close()
         with Server(self.path, program=testing.PROGRAM) as server:
-            self.assertEqual([layer.name for layer in server.sessions[0].layers()], ["A"])
-            self.assertEqual(server.sessions[0].sync(), 1)
+            assert [layer.name for layer in server.sessions[0].layers()] == ["A"]
+            assert server.sessions[0].sync() == 1
             server.sessions[0].put("B", SQUARE)
-            self.assertEqual(server.sessions[0].sync(), 2)
+            assert server.sessions[0].sync() == 2
 
     def test_what_is_durable_never_becomes_less(self) -> None:
         """The reply to the first of two changes comes last: it says less than what is known by then."""
@@ -125,13 +125,13 @@ class Rescues(unittest.TestCase):
         first = threading.Thread(target=self.client.change, args=("/collections/D", "PUT", {"definition": "A"}))
         first.start()
         testing.wait_until(lambda: bool(self.client.get("/status")["version"] == 2))
-        self.assertEqual(self.client.change("/collections/E", "PUT", {"definition": "A"})["durable"], 3)
+        assert self.client.change("/collections/E", "PUT", {"definition": "A"})["durable"] == 3
         second.set()
         first.join(60)
-        self.assertEqual(self.client.get("/status")["durable"], 3)
+        assert self.client.get("/status")["durable"] == 3
 
     def test_a_store_that_is_written_again_with_the_next_command_is_left(self) -> None:
         for number in (31, 36, 40, 46):
             self.store._rescue.begin(Refused(number, "text"))  # type: ignore[union-attr]
-        self.assertEqual(self.client.get("/status")["lost"], [])
+        assert self.client.get("/status")["lost"] == []
         self.client.change("/collections/D", "PUT", {"definition": "A"})

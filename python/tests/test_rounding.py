@@ -64,7 +64,7 @@ class OnePolygon(FrontCase):
 
     def script(self, source: pathlib.Path) -> tuple[str, str]:
         status, output, errors = outcome(to_script, source, "--factor", "100")
-        self.assertEqual(status, 0, errors)
+        assert status == 0, errors
         return output, errors
 
     def test_by_scripts(self) -> None:
@@ -73,15 +73,15 @@ class OnePolygon(FrontCase):
             ring = ", ".join(f"{x} {y}" for x, y in (*corners, corners[0]))
             for file in (source, self.file(f"{name}.wkt", f"POLYGON (({ring}))"), self.package(source)):
                 output, errors = self.script(file)
-                self.assertEqual(output, f"PUT {name} POLYGON {TEXT}\n", file.name)
+                assert output == f"PUT {name} POLYGON {TEXT}\n", file.name
                 count = 10 if name == "long" and file.suffix != ".gpkg" else 0
-                self.assertEqual(f", {count} coordinates of more digits than a double has" in errors, count > 0, errors)
+                assert (f", {count} coordinates of more digits than a double has" in errors) == (count > 0), errors
 
     def test_a_double_beside_a_half_is_that_double_of_a_file_too(self) -> None:
         corners = (("61.31499999999999", "0"), ("70.005", "0"), ("70.005", "9"), ("61.31499999999999", "9"))
         source = self.file("near.geojson", feature(corners))
         for file in (source, self.package(source)):
-            self.assertIn("((6131 0, 7001 0, 7001 900, 6131 900, 6131 0))", self.script(file)[0], file.name)
+            assert "((6131 0, 7001 0, 7001 900, 6131 900, 6131 0))" in self.script(file)[0], file.name
 
     def test_by_questions_over_maps(self) -> None:
         if Programs.features is None or not Ask(Programs.features).makes_outlines():
@@ -91,20 +91,19 @@ class OnePolygon(FrontCase):
             words = [*OVERLAY, "pieces", str(text), str(self.package(text)),
                      "--factor", "100", "--program", str(Programs.features)]
             done = subprocess.run(words, capture_output=True, text=True, timeout=60, check=False)
-            self.assertEqual(done.returncode, 0, done.stderr)
+            assert done.returncode == 0, done.stderr
             _, row, *others = done.stdout.splitlines()
-            self.assertEqual((others, float(row.split(",")[2])), ([], float(AREA)), done.stdout)
+            assert (others, float(row.split(",")[2])) == ([], float(AREA)), done.stdout
             told = done.stderr.splitlines()
-            self.assertEqual(["of more digits than a double has" in line for line in told[:2]], [name == "long", False],
-                             told)
+            assert ["of more digits than a double has" in line for line in told[:2]] == [name == "long", False], told
 
     def test_by_requests(self) -> None:
         for name, corners in GIVEN.items():
             told = self.client.ask(f"/collections/{name}", "PUT", geometry(corners).encode())
-            self.assertEqual((told.status, told.value["moved"]), (200, 0.005), told.value)
+            assert (told.status, told.value["moved"]) == (200, 0.005), told.value
             with self.server.session() as one:
                 texts = {layer.name: layer.text for layer in one.layers()}
-            self.assertIn(TEXT, texts[name] or "")
+            assert TEXT in (texts[name] or "")
 
     def test_by_the_client(self) -> None:
         store = testing.square_store(self.folder)
@@ -112,13 +111,13 @@ class OnePolygon(FrontCase):
         with Server(store, program=testing.PROGRAM) as server:
             for corners in GIVEN.values():
                 given: Any = json.loads(geometry(corners))
-                self.assertEqual(World(server).text_of(given), f"MULTIPOLYGON ({TEXT})")
+                assert World(server).text_of(given) == f"MULTIPOLYGON ({TEXT})"
 
     def test_points_are_the_same_ones(self) -> None:
         for (x, y), (long_x, long_y) in zip(HALVES, LONG):
             short, long = (self.client.get(f"/locate?x={a}&y={b}") for a, b in ((x, y), (long_x, long_y)))
-            self.assertEqual((short["asked"], short["exact"]), (long["asked"], True))
-            self.assertFalse(long["exact"], long)
+            assert (short["asked"], short["exact"]) == (long["asked"], True)
+            assert not long["exact"], long
 
     def test_which_says_what_it_asked(self) -> None:
         store = self.folder / "map.db"
@@ -129,5 +128,5 @@ class OnePolygon(FrontCase):
         for (x, y), is_exact in ((HALVES[0], True), (LONG[0], False)):
             points = self.file("points.txt", f"{x} {y}\n")
             status, output, errors = outcome(which, "--store", store, "--points", points, "--program", testing.PROGRAM)
-            self.assertEqual((status, output), (0, "edge\tA\n"), errors)
-            self.assertEqual(errors, "" if is_exact else f"asked at 0.285 -0.285, which is nearest to {x} {y}\n")
+            assert (status, output) == (0, "edge\tA\n"), errors
+            assert errors == ("" if is_exact else f"asked at 0.285 -0.285, which is nearest to {x} {y}\n")

@@ -32,22 +32,22 @@ class Coordinates(unittest.TestCase):
             if place % 10 == 0:
                 long = text + "0" * 17 + "1"
                 found += [reader.whole(1, Decimal(long)), reader.scale.nearest(Fraction(0), Fraction(long))[1]]
-            self.assertEqual(found, [right] * len(found), text)
+            assert found == [right] * len(found), text
         tallies = [reader.tally for reader in readers.values()]
-        self.assertEqual([sum(one.longer for one in tallies), sum(one.rounded for one in tallies)], [10_000, 110_000])
+        assert [sum(one.longer for one in tallies), sum(one.rounded for one in tallies)] == [10_000, 110_000]
 
     def test_digits_that_a_double_has_are_none_too_many(self) -> None:
         for text, is_longer in (("0.28499999999999998", False), ("0.1000000000000000000000", False), ("3", False),
                                 ("0.28499999999999999998", True), ("100000000000000000000", False),
                                 ("123456789012345678", True), ("-0.1000000000000000055511151231257827", True)):
-            self.assertEqual(grid.is_longer(Decimal(text)), is_longer, text)
+            assert grid.is_longer(Decimal(text)) == is_longer, text
 
     def test_what_no_decimal_spells_is_itself(self) -> None:
         for number in (Fraction(5, 3), Fraction(-1, 7), Fraction(10) ** 400):
-            self.assertEqual(grid.stands_for(number), number)
-        self.assertEqual(grid.stands_for(Fraction("0.28499999999999999998")), Fraction("0.285"))
-        self.assertEqual(Scale(Fraction(3), Fraction(3)).question(Fraction(5, 3), Fraction("1.66666666666666666667")),
-                         (5120, 5120, 1024))
+            assert grid.stands_for(number) == number
+        assert grid.stands_for(Fraction("0.28499999999999999998")) == Fraction("0.285")
+        assert Scale(Fraction(3), Fraction(3)).question(Fraction(5, 3), Fraction("1.66666666666666666667")) == \
+            (5120, 5120, 1024)
 
 
 class Numbers(unittest.TestCase):
@@ -56,12 +56,12 @@ class Numbers(unittest.TestCase):
                                      (Fraction(-1, 1000), 2, "0"), (Fraction(199, 100), 1, "2"),
                                      (Fraction(-25, 10), 0, "-2"), (Fraction(1, 8), 6, "0.125"),
                                      (Fraction(1005, 10), 1, "100.5")):
-            self.assertEqual(scales.decimals(number, digits), text)
+            assert scales.decimals(number, digits) == text
 
     def test_numbers_that_are_exact_and_those_that_are_none(self) -> None:
         for text, number in (("1", Fraction(1)), ("-.5", Fraction(-1, 2)), (" 1e-3 ", Fraction(1, 1000)),
                              ("2.", Fraction(2)), (7, Fraction(7)), (0.1, Fraction(1, 10))):
-            self.assertEqual(scales.exact(text), number)
+            assert scales.exact(text) == number
         for none in ("", ".", "e5", "1/3", "1e999999999", "nan", "0x10", True, None, "1" * 30, "1 2"):
             with self.assertRaises(scales.ScaleFault, msg=none):
                 scales.exact(none)
@@ -70,7 +70,7 @@ class Numbers(unittest.TestCase):
         for text, number in (("1", Fraction(1)), ("-.5", Fraction(-1, 2)), (" 25e-1 ", Fraction(5, 2)),
                              ("5/3", Fraction(5, 3)), ("-4/06", Fraction(-2, 3)), ("1e99", Fraction(10**99)),
                              ("1" + "0" * 40, Fraction(10**40))):
-            self.assertEqual(scales.number(text), number)
+            assert scales.number(text) == number
         for none in ("", "1e100", "1e400000000", "1e-400000000", "1" * 101, "1/0", "1/00", "1/" + "9" * 101, "nan",
                      "inf", "1/3e5", "1 2", "0x10"):
             with self.assertRaises(ValueError, msg=none):
@@ -78,34 +78,34 @@ class Numbers(unittest.TestCase):
 
     def test_digits_that_spell_a_number(self) -> None:
         for number, digits in ((Fraction(7), 0), (Fraction(1, 8), 3), (Fraction(3, 50), 2), (Fraction(1, 3), None)):
-            self.assertEqual(scales.decimal_digits(number), digits)
+            assert scales.decimal_digits(number) == digits
 
 
 class Places(InFolder):
     scale = Scale(Fraction(10), Fraction(4), (Fraction(1000), Fraction(-1, 2)), "Plan", "ft", "EPSG:2263", 5)
 
     def test_the_world_and_back(self) -> None:
-        self.assertEqual(self.scale.world((7, -6, 4)), (1000 + Fraction(7, 40), -Fraction(1, 2) - Fraction(6, 16)))
-        self.assertEqual(self.scale.stored(*self.scale.world((7, -6, 4))), (Fraction(7, 4), Fraction(-6, 4)))
-        self.assertEqual(self.scale.area(Fraction(20)), Fraction(1, 2))
+        assert self.scale.world((7, -6, 4)) == (1000 + Fraction(7, 40), -Fraction(1, 2) - Fraction(6, 16))
+        assert self.scale.stored(*self.scale.world((7, -6, 4))) == (Fraction(7, 4), Fraction(-6, 4))
+        assert self.scale.area(Fraction(20)) == Fraction(1, 2)
 
     def test_a_point_is_asked_exactly_where_a_weight_allows_it(self) -> None:
-        self.assertEqual(self.scale.question(Fraction("1000.01"), Fraction(0)), (1, 20, 10))
+        assert self.scale.question(Fraction("1000.01"), Fraction(0)) == (1, 20, 10)
         x, y, w = self.scale.question(1000 + Fraction(1, 30000), Fraction(0))
-        self.assertEqual((x, y, w), (0, 2048, 1024))  # 1/3000 of a unit is nearer to 0 than to 1/1024
+        assert (x, y, w) == (0, 2048, 1024)
 
     def test_the_file_says_the_same(self) -> None:
         file = self.file("plan.scale.json", self.scale.text())
-        self.assertEqual(scales.read(file), self.scale)
-        self.assertEqual(json.loads(file.read_text()), {
+        assert scales.read(file) == self.scale
+        assert json.loads(file.read_text()) == {
             "title": "Plan", "factor": 10, "factor_y": 4, "origin": [1000, -0.5], "unit": "ft", "crs": "EPSG:2263",
-            "digits": 5})
+            "digits": 5}
 
     def test_a_number_that_a_double_would_change_is_a_text(self) -> None:
         origin = Fraction("0.12345678901234567891"), Fraction(2)
         text = Scale(origin=origin).text()
-        self.assertEqual(json.loads(text)["origin"], ["0.12345678901234567891", 2])
-        self.assertEqual(scales.of_value(json.loads(text)).origin, origin)
+        assert json.loads(text)["origin"] == ["0.12345678901234567891", 2]
+        assert scales.of_value(json.loads(text)).origin == origin
         with self.assertRaises(scales.ScaleFault):
             Scale(Fraction(1, 3)).text()
 
@@ -123,18 +123,18 @@ class Places(InFolder):
                            (absent, "No such file or directory")):
             with self.assertRaises(scales.ScaleFault) as fault:
                 scales.read(path)
-            self.assertTrue(str(fault.exception).startswith(f"{path}: {told}"), fault.exception)
+            assert str(fault.exception).startswith(f"{path}: {told}"), fault.exception
 
     def test_the_scale_beside_a_store_and_beside_its_parts(self) -> None:
         shared = self.file("ny.scale.json", "{}")
-        self.assertEqual(scales.beside(self.folder / "ny.db"), shared)
-        self.assertEqual(scales.beside(self.folder / "ny.2.db"), shared)
+        assert scales.beside(self.folder / "ny.db") == shared
+        assert scales.beside(self.folder / "ny.2.db") == shared
         own = self.file("ny.2.scale.json", "{}")
-        self.assertEqual(scales.beside(self.folder / "ny.2.db"), own)
+        assert scales.beside(self.folder / "ny.2.db") == own
 
     def test_a_whole_number_comes_back_from_the_digits(self) -> None:
         for factor in (Fraction(1), Fraction(10), Fraction(42262), Fraction(5, 1000), Fraction(10**6)):
             digits = scales.enough_digits(factor)
             for number in (1, 999983, -1048576):
                 world = Fraction(scales.decimals(number / factor, digits))
-                self.assertEqual(round(world * factor), number)
+                assert round(world * factor) == number

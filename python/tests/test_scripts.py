@@ -73,8 +73,8 @@ class ToScript(unittest.TestCase):
                      "POLYGON ((0 0, 1e99999999999999999999 1, 2 0, 0 0))", "{\"a\": 1e99999999999999999999}",
                      "POLYGON " + "(" * 3000, "{\"type\":" * 3000):
             status, output, errors = on_file(to_script, text)
-            self.assertEqual((status, output), (2, ""), text[:30])
-            self.assertIn("not read", errors)
+            assert (status, output) == (2, ""), text[:30]
+            assert "not read" in errors
 
     def test_numbers_with_great_exponents(self) -> None:
         for number in ("1e99999999", "-1e99999999", "1e-99999999", "1e201", "1e-201", "9" * 202, "0." + "1" * 201):
@@ -82,42 +82,42 @@ class ToScript(unittest.TestCase):
                          f'{{"type": "Polygon", "coordinates": [[[0, 0], [{number}, 0], [0, 9], [0, 0]]]}}'):
                 for words in ([], ["--fit"], ["--factor", 1]):
                     status, output, errors = on_file(to_script, text, *words)
-                    self.assertEqual((status, output), (1, ""), (text, words))
-                    self.assertIn("a coordinate that is beyond all bounds", errors)
+                    assert (status, output) == (1, ""), (text, words)
+                    assert "a coordinate that is beyond all bounds" in errors
         for number in ("1e200", "1e-200", "-" + "9" * 200, "0." + "1" * 200):
             for words in ([], ["--fit"], ["--factor", "1e99"], ["--factor", "1e-99"]):
                 status = on_file(to_script, f"POLYGON ((0 0, {number} 0, 0 {number}, 0 0))", *words)[0]
-                self.assertIn(status, (0, 1, 2), (number, words))
+                assert status in (0, 1, 2), (number, words)
         for word in ("--factor", "--factor-y"):
             for number in ("1e400000000", "1e-400000000", "1/0", "inf"):
-                self.assertEqual(on_file(to_script, SQUARE, word, number)[:2], (2, ""))
+                assert on_file(to_script, SQUARE, word, number)[:2] == (2, "")
 
     def test_too_many_steps(self) -> None:
         def zigzag(steps: int) -> str:
             points = [f"{i} {i * 7919 % 1000}" for i in range(steps)] + ["0 0"]
             return "POLYGON ((" + ", ".join(points) + "))"
-        self.assertEqual(on_file(to_script, zigzag(1000))[0], 0)
+        assert on_file(to_script, zigzag(1000))[0] == 0
         status, output, errors = on_file(to_script, zigzag(2049))
-        self.assertEqual((status, output), (1, ""))
-        self.assertIn("refused: layer input_file: too many steps: 2049 of at most 2048; --split writes them", errors)
+        assert (status, output) == (1, "")
+        assert "refused: layer input_file: too many steps: 2049 of at most 2048; --split writes them" in errors
         status, output, errors = on_file(to_script, "\n".join([zigzag(1000), zigzag(1000), zigzag(1000)]))
-        self.assertEqual((status, output), (1, ""))
-        self.assertIn("refused: layer input_file: too many steps: 3000 of at most 2048", errors)
+        assert (status, output) == (1, "")
+        assert "refused: layer input_file: too many steps: 3000 of at most 2048" in errors
 
     def test_real_shapes(self) -> None:
         files = [path("data", f"iceland_{scale}.geojson") for scale in ("110m", "50m")]
         words = "--factor", 42262, "--factor-y", 100000, "--origin", -19, 65
         status, output, errors = outcome(to_script, *files, *words)
-        self.assertEqual(status, 0)
-        self.assertTrue(content("fixtures", "iceland.txt").decode().startswith(output))
-        self.assertIn("layer iceland_50m: polygons 1, steps 452; 902 of 906 coordinates rounded", errors)
+        assert status == 0
+        assert content("fixtures", "iceland.txt").decode().startswith(output)
+        assert "layer iceland_50m: polygons 1, steps 452; 902 of 906 coordinates rounded" in errors
 
     def test_of_a_map_that_is_out_of_range_the_first_few_are_told(self) -> None:
         text = "".join(f"POLYGON (({x} 5400000, {x} 5400009, {x + 9} 5400009, {x} 5400000))\n"
                        for x in range(0, 1500, 100))
         status, output, errors = on_file(to_script, text, "--factor", 1000)
-        self.assertEqual((status, output), (1, ""))
-        self.assertEqual([line[:5] for line in errors.splitlines()], ["refus"] * 10 + ["and 5", "at fa", "no la"])
+        assert (status, output) == (1, "")
+        assert [line[:5] for line in errors.splitlines()] == ["refus"] * 10 + ["and 5", "at fa", "no la"]
         self.assertIn(
             "and 5 more\nat factor 1000, origin 0 0: 15 shapes are out of range; to be fitted: --factor 1 --origin 704 "
             "5400004, or --fit\n", errors)
@@ -138,7 +138,7 @@ class Names(unittest.TestCase):
     def test_letters_beyond_ascii_keep_their_place(self) -> None:
         for wish, wanted in (("Größe", "Grosse"), ("STRAẞE", "STRASSE"), ("Süd-Öst", "Sud_Ost"), ("Małe", "Ma_e"),
                              ("Kær", "K_r"), ("Łódź", "odz"), ("山田", "L"), ("7 Höfe", "L_7_Hofe")):
-            self.assertEqual(to_script.fitted_name(wish), wanted)
+            assert to_script.fitted_name(wish) == wanted
 
     def names(self, *wishes: str) -> tuple[list[str], int, str]:
         text = collection(*(feature(wish, 10 * i) for i, wish in enumerate(wishes)))
@@ -148,10 +148,10 @@ class Names(unittest.TestCase):
     def test_names_fit_the_rule(self) -> None:
         found, status, _ = self.names('"Île de Ré"', '"9 x"', '"a-b"', '"a b"', "7", "null", '"' + "x" * 40 + '"',
                                       '"' + "x" * 41 + '"', '"日本"', '"a_b_2"')
-        self.assertEqual(status, 0)
-        self.assertEqual(found, ["Ile_de_Re", "L_9_x", "a_b", "a_b_2", "L_7", "input_file", "x" * 32,
-                                 "x" * 30 + "_2", "L", "a_b_2_2"])
-        self.assertTrue(all(re.fullmatch(r"[A-Za-z][A-Za-z0-9_]{0,31}", name) for name in found))
+        assert status == 0
+        assert found == \
+            ["Ile_de_Re", "L_9_x", "a_b", "a_b_2", "L_7", "input_file", "x" * 32, "x" * 30 + "_2", "L", "a_b_2_2"]
+        assert all(re.fullmatch(r"[A-Za-z][A-Za-z0-9_]{0,31}", name) for name in found)
 
     def test_one_value_is_one_layer(self) -> None:
         text = collection(feature('"a"'), feature('"b"', 10), feature('"a"', 20, "MultiPolygon"))
@@ -161,43 +161,43 @@ class Names(unittest.TestCase):
 
     def test_at_most_32_layers(self) -> None:
         found, status, errors = self.names(*(f'"n{i}"' for i in range(34)))
-        self.assertEqual((len(found), status), (32, 1))
-        self.assertIn("refused: n33: a layer more than 32; --output NAME.txt writes several stores", errors)
+        assert (len(found), status) == (32, 1)
+        assert "refused: n33: a layer more than 32; --output NAME.txt writes several stores" in errors
 
     def test_without_a_property_all_is_one_layer(self) -> None:
         output = on_file(to_script, collection(feature('"a"'), feature('"b"', 10)))[1]
-        self.assertEqual(len(output.splitlines()), 1)
+        assert len(output.splitlines()) == 1
 
     def test_the_feature_that_is_refused_is_told(self) -> None:
         told = "refused: FILE, {}: a ring whose last point is not its first, 10 0\n"
         broken = feature('"b"', 10).replace(", [10, 0]]", ", [10, 1]]")
         for text, label in ((collection(feature('"a"'), broken), "feature 2"), (broken, "feature 1")):
-            self.assertIn(told.format(label), on_file(to_script, text)[2])
-            self.assertIn(told.format(f"{label} (b)"), on_file(to_script, text, "--name-by", "name")[2])
-        self.assertIn(told.format("text 1"), on_file(to_script, "POLYGON ((10 0, 15 0, 10 5, 10 1))")[2])
+            assert told.format(label) in on_file(to_script, text)[2]
+            assert told.format(f"{label} (b)") in on_file(to_script, text, "--name-by", "name")[2]
+        assert told.format("text 1") in on_file(to_script, "POLYGON ((10 0, 15 0, 10 5, 10 1))")[2]
 
     def test_a_property_that_no_feature_has(self) -> None:
         told = "--name-by nope: no feature has this property; they have"
         text = collection(feature('"a"'), feature('"b"', 10))
-        self.assertEqual(on_file(to_script, text, "--name-by", "nope"), (2, "", f"{told} name\n"))
+        assert on_file(to_script, text, "--name-by", "nope") == (2, "", f"{told} name\n")
         many = text.replace('"name": "b"', ", ".join(f'"p{place}": 1' for place in range(12)))
-        self.assertEqual(on_file(to_script, many, "--name-by", "nope"),
-                         (2, "", f"{told} name, {', '.join(f'p{place}' for place in range(9))} and 3 more\n"))
-        self.assertEqual(on_file(to_script, many, "--name-by", "p11")[0], 0)
+        assert on_file(to_script, many, "--name-by", "nope") == \
+            (2, "", f"{told} name, {', '.join(f'p{place}' for place in range(9))} and 3 more\n")
+        assert on_file(to_script, many, "--name-by", "p11")[0] == 0
         for none in (SQUARE, text.replace('{"name": "a"}', "[1]").replace('{"name": "b"}', "null")):
-            self.assertEqual(on_file(to_script, none, "--name-by", "nope"), (2, "", f"{told} none\n"))
+            assert on_file(to_script, none, "--name-by", "nope") == (2, "", f"{told} none\n")
 
     def test_geometry_collections_and_odd_values(self) -> None:
         inner = '{"type": "Polygon", "coordinates": [[[0, 0], [5, 0], [0, 5], [0, 0]]]}'
         text = f'{{"type": "GeometryCollection", "geometries": [{inner}, {{"type": "Point", "coordinates": [1, 2]}}]}}'
         status, output, errors = on_file(to_script, text)
-        self.assertEqual((status, output), (1, "PUT input_file POLYGON ((0 0, 5 0, 0 5, 0 0))\n"))
-        self.assertIn("FILE, member 2: no polygon: POINT", errors)
+        assert (status, output) == (1, "PUT input_file POLYGON ((0 0, 5 0, 0 5, 0 0))\n")
+        assert "FILE, member 2: no polygon: POINT" in errors
         for odd in ("[[[0, 0], [5, 0], [0, 5], [0, null]]]", "[[[0, 0], [5, 0], [0, 1e9999], [0, 0]]]", "7", "[7]",
                     "[[7]]", "[[[0, 0], [5, NaN], [0, 5], [0, 0]]]", '[["a"]]',
                     "[[[0, true], [5, 0], [0, 5], [0, true]]]"):
             status, output, errors = on_file(to_script, f'{{"type": "Polygon", "coordinates": {odd}}}')
-            self.assertEqual((status, output), (1, ""), odd)
+            assert (status, output) == (1, ""), odd
         status, output, errors = on_file(to_script, '{"type": "Polygon", "coordinates": []}')
-        self.assertEqual((status, output, errors), (1, "", "nothing to write: FILE\nno layer: nothing is written\n"))
-        self.assertEqual(on_file(to_script, '{"type": "Feature", "properties": null, "geometry": null}')[:2], (1, ""))
+        assert (status, output, errors) == (1, "", "nothing to write: FILE\nno layer: nothing is written\n")
+        assert on_file(to_script, '{"type": "Feature", "properties": null, "geometry": null}')[:2] == (1, "")

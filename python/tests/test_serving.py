@@ -98,12 +98,12 @@ class Serving(FrontCase):
         self.begin(600, 600)
         links = self.many(begin)
         with self.trickling(links):
-            self.assertEqual(self.status(), 200)
+            assert self.status() == 200
         self.begin(1, 600)
         with self.trickling(links := self.many(begin)[:2]):
             for link in links:
                 read_all(link)
-            self.assertEqual(self.status(), 200)
+            assert self.status() == 200
 
     def test_slow_heads(self) -> None:
         self.slow(HEAD + b"X: ")
@@ -113,7 +113,7 @@ class Serving(FrontCase):
         (trials/slow_clients.py has 900)."""
         self.begin(600, 600)
         with self.trickling(self.many(HEAD + b"X: ", 250)):
-            self.assertEqual([self.status() for _ in range(10)], [200] * 10)
+            assert [self.status() for _ in range(10)] == [200] * 10
 
     def test_slow_bodies(self) -> None:
         head = HEAD.replace(b"GET /status", b"PUT /collections/N")
@@ -125,14 +125,14 @@ class Serving(FrontCase):
         self.enterContext(unittest.mock.patch.object(self.front, "app", large))
         self.begin(600, 600)
         self.many(HEAD + b"\r\n")
-        self.assertEqual(self.status(), 200)
+        assert self.status() == 200
         self.begin(600, 1)
         links = self.many(HEAD + b"\r\n")
         for link in links:
             link.recv(1, socket.MSG_PEEK)
         wait_until(lambda: self.open_ones() == 0)
         for link in links:
-            self.assertLess(len(read_all(link)), len(large.data))
+            assert len(read_all(link)) < len(large.data)
 
     def test_own_refusals(self) -> None:
         self.begin(60, 60)
@@ -146,7 +146,7 @@ class Serving(FrontCase):
             (put + b"Content-Length: 5\r\n\r\n{\"a\":", {400}),
         ):
             status, headers, value = self.asked(sent)
-            self.assertIn(status, statuses, sent[:60])
-            self.assertEqual((headers["Content-Type"], value["code"]), ("application/json", str(status)), sent[:60])
-            self.assertIn("description", value)
-        self.assertEqual(self.status(), 200)
+            assert status in statuses, sent[:60]
+            assert (headers["Content-Type"], value["code"]) == ("application/json", str(status)), sent[:60]
+            assert "description" in value
+        assert self.status() == 200

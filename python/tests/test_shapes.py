@@ -83,9 +83,9 @@ class Shapes(unittest.TestCase):
             # The quick look by the first ring is of polygons, whose other rings lie within it.
             feature.box = Box.of(corner for ring in rings for corner in ring)
             right = meets([[(Fraction(x, w), Fraction(y, w)) for x, y, w in ring] for ring in rings], box)
-            self.assertEqual(feature.meets(box), right, (rings, box))
+            assert feature.meets(box) == right, (rings, box)
             found[right] += 1
-        self.assertGreater(min(found), 400)
+        assert min(found) > 400
 
     def test_a_box_that_touches_in_a_point_meets(self) -> None:
         feature = Feature(1, [[(0, 0, 1), (3, 1, 1), (0, 2, 1)]], testing.map_scale())
@@ -93,14 +93,14 @@ class Shapes(unittest.TestCase):
             ("3 1 5 5", True), ("301/100 1 5 5", False), ("-1 -1 0 0", True), ("3/2 3/2 5 5", True),
             ("151/100 3/2 5 5", False), ("1 1 1 1", True), ("1 1/3 1 1/3", True), ("-9 -9 9 9", True),
         ):
-            self.assertEqual(feature.meets(Box(*map(Fraction, box.split()))), right, box)
+            assert feature.meets(Box(*map(Fraction, box.split()))) == right, box
 
     def test_a_box_within_a_hole_meets_nothing(self) -> None:
         outer, hole = [(0, 0, 1), (9, 0, 1), (9, 9, 1), (0, 9, 1)], [(2, 2, 1), (2, 7, 1), (7, 7, 1), (7, 2, 1)]
         feature = Feature(1, [outer, hole], testing.map_scale())
-        self.assertFalse(feature.meets(Box(*map(Fraction, (3, 3, 6, 6)))))
-        self.assertTrue(feature.meets(Box(*map(Fraction, (3, 3, 6, 7)))))
-        self.assertEqual(feature.geojson()["properties"], {"corners": 8, "holes": 1, "area": 56})
+        assert not feature.meets(Box(*map(Fraction, (3, 3, 6, 6))))
+        assert feature.meets(Box(*map(Fraction, (3, 3, 6, 7))))
+        assert feature.geojson()["properties"] == {"corners": 8, "holes": 1, "area": 56}
 
     def test_areas_are_those_of_fractions(self) -> None:
         source = random.Random(2)
@@ -115,7 +115,7 @@ class Shapes(unittest.TestCase):
             places = [scale.scale.world(corner) for corner in rings[0]]
             twice = sum(a[0] * b[1] - b[0] * a[1] for a, b in zip(places, places[1:] + places[:1]))
             right = float(rounded(twice.numerator, twice.denominator * 2, 12))
-            self.assertEqual(float(shapes.area_of(rings, scale)), right)
+            assert float(shapes.area_of(rings, scale)) == right
 
 
 class Numbers(unittest.TestCase):
@@ -124,7 +124,7 @@ class Numbers(unittest.TestCase):
             ("1", 1), ("-0.5", Fraction(-1, 2)), ("1e3", 1000), ("5/3", Fraction(5, 3)), (".5", Fraction(1, 2)),
             ("2.5e-2", Fraction(1, 40)), ("+7", 7), ("-1/4", Fraction(-1, 4)),
         ):
-            self.assertEqual(exact(text), value, text)
+            assert exact(text) == value, text
         bad: tuple[object, ...] = (
             "", ".", "1e999", "1e99999999", "1/0", "1//2", "nan", "inf", "0x10", "1" * 21, "1_0", "1/3.5", "e5", "٣",
             True, None, [1],
@@ -143,8 +143,8 @@ class Numbers(unittest.TestCase):
             if Fraction(over, under) * 2 * 10**digits % 1 == 0:  # a quotient that Decimal cuts off is no half
                 right = Decimal(round(Fraction(over, under) * 10**digits)).scaleb(-digits)
             found = rounded(over, under, digits)
-            self.assertEqual(found, float(right), (over, under, digits))
-            self.assertEqual(isinstance(found, int), right == int(right))
+            assert found == float(right), (over, under, digits)
+            assert isinstance(found, int) == (right == int(right))
 
     def test_a_place_in_the_world_is_that_of_fractions(self) -> None:
         source = random.Random(4)
@@ -152,22 +152,21 @@ class Numbers(unittest.TestCase):
         for _ in range(500):
             corner = (source.randrange(-(2**40), 2**40), source.randrange(-(2**40), 2**40), source.randrange(1, 2**21))
             world = scale.scale.world(corner)
-            self.assertEqual(scale.position(corner), [scale.number(n) for n in world])
-            self.assertEqual(scale.scale.stored(*world), (Fraction(*corner[::2]), Fraction(*corner[1:])))
+            assert scale.position(corner) == [scale.number(n) for n in world]
+            assert scale.scale.stored(*world) == (Fraction(*corner[::2]), Fraction(*corner[1:]))
 
     def test_systems(self) -> None:
-        self.assertEqual(testing.map_scale().uri(), None)
-        self.assertEqual(testing.map_scale(crs="OGC:CRS84").uri(), map_scale.CRS84)
-        self.assertEqual(testing.map_scale(crs="EPSG:32633").uri(), "http://www.opengis.net/def/crs/EPSG/0/32633")
+        assert testing.map_scale().uri() is None
+        assert testing.map_scale(crs="OGC:CRS84").uri() == map_scale.CRS84
+        assert testing.map_scale(crs="EPSG:32633").uri() == "http://www.opengis.net/def/crs/EPSG/0/32633"
         for crs in ("WGS84", "EPSG:", "EPSG:1 2", "http://x/", "EPSG:1234567890"):
             self.assertRaises(scales.ScaleFault, testing.map_scale, crs=crs)
 
     def test_columns_and_limits(self) -> None:
         scale = testing.map_scale(factor=2, origin=[100, 0])
-        self.assertEqual(scale.limits(), [100 - 2**19, -(2**19), 100 + 2**19, 2**19])
-        self.assertEqual(
-            (len(scale.columns()), scale.columns()[0], scale.columns()[-1]), (limits.COLUMNS, 100 - 2**19, 100 + 2**19),
-        )
+        assert scale.limits() == [100 - 2**19, -(2**19), 100 + 2**19, 2**19]
+        assert (len(scale.columns()), scale.columns()[0], scale.columns()[-1]) == \
+            (limits.COLUMNS, 100 - 2**19, 100 + 2**19)
 
 
 class Texts(unittest.TestCase):
@@ -175,18 +174,18 @@ class Texts(unittest.TestCase):
         scale = scales.of_value(dict(factor=100, origin=[500, 0]))
         ring = [["500.5", 0], [501, 0], [501, 1, 77], ["500.5", 0]]
         given = json.loads(json.dumps({"type": "Polygon", "coordinates": [ring]}), parse_int=str)
-        self.assertEqual(text_of(given, scale), ("MULTIPOLYGON (((50 0, 100 0, 100 100, 50 0)))", 0.0))
+        assert text_of(given, scale) == ("MULTIPOLYGON (((50 0, 100 0, 100 100, 50 0)))", 0.0)
         self.assertEqual(
             text_of({"type": "MultiPolygon", "coordinates": [[ring], [ring, ring]]}, scale).wkt.count("50 0, 100 0"), 3
         )
-        self.assertEqual(text_of({"type": "MultiPolygon", "coordinates": []}, scale).wkt, "MULTIPOLYGON EMPTY")
-        self.assertEqual(text_of({"type": "Polygon", "coordinates": []}, scale).wkt, "MULTIPOLYGON EMPTY")
+        assert text_of({"type": "MultiPolygon", "coordinates": []}, scale).wkt == "MULTIPOLYGON EMPTY"
+        assert text_of({"type": "Polygon", "coordinates": []}, scale).wkt == "MULTIPOLYGON EMPTY"
 
     def test_it_tells_how_far_a_corner_is_moved(self) -> None:
         scale = scales.of_value(dict(factor=100, factor_y=10))
         ring = [["0.001", 0], [1, 0], [1, "0.96"], ["0.001", 0]]
         text = text_of({"type": "Polygon", "coordinates": [ring]}, scale)
-        self.assertEqual(text, ("MULTIPOLYGON (((0 0, 100 0, 100 10, 0 0)))", 0.04))
+        assert text == ("MULTIPOLYGON (((0 0, 100 0, 100 10, 0 0)))", 0.04)
 
     def test_what_is_no_polygon_is_refused(self) -> None:
         bad: tuple[object, ...] = (

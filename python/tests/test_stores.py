@@ -35,96 +35,92 @@ class OverTheModel(InFolder):
         for more, layer in (("", "I"), ("DEFINE J = A\n", "J"), ("DEFINE J = A\nDEFINE I = A\n", "J"),
                             ("DEFINE J = A\nDROP J\nPUT B POLYGON EMPTY\n", "I"), ("DROP I\n", "A")):
             for tool in (rings, svg):
-                self.assertEqual(self.asked(tool, text + more), self.asked(tool, text + more, "--layer", layer))
+                assert self.asked(tool, text + more) == self.asked(tool, text + more, "--layer", layer)
 
     def test_a_layer_that_is_not_there(self) -> None:
         for tool in (rings, svg, export):
-            self.assertEqual(self.asked(tool, f"PUT A {SQUARE}\n", "--layer", "I"),
-                             (1, "", "I: no layer has this name\n"))
+            assert self.asked(tool, f"PUT A {SQUARE}\n", "--layer", "I") == (1, "", "I: no layer has this name\n")
 
     def test_a_base_layer_has_the_boundary_of_its_inside(self) -> None:
         status, output, _ = self.asked(rings, BOW, "--layer", "W")
-        self.assertEqual((status, output), (0, "MULTIPOLYGON (((0 0, 2 2, 0 4, 0 0)), ((2 2, 4 0, 4 4, 2 2)))\n"))
-        self.assertEqual(self.asked(rings, TRIANGLE)[1], "POLYGON ((0 0, 3 1, 0 2, 0 0))\n")
-        self.assertEqual(self.asked(svg, BOW + CUT, "--layer", "W")[0], 0)
+        assert (status, output) == (0, "MULTIPOLYGON (((0 0, 2 2, 0 4, 0 0)), ((2 2, 4 0, 4 4, 2 2)))\n")
+        assert self.asked(rings, TRIANGLE)[1] == "POLYGON ((0 0, 3 1, 0 2, 0 0))\n"
+        assert self.asked(svg, BOW + CUT, "--layer", "W")[0] == 0
 
     def test_areas_of_rings(self) -> None:
         status, output, _ = self.asked(rings, CUT, "--areas")
-        self.assertEqual((status, output), (0, "polygon 1 outer area 1.333333 4/3\narea 1.333333 4/3\n"))
+        assert (status, output) == (0, "polygon 1 outer area 1.333333 4/3\narea 1.333333 4/3\n")
         output = self.asked(rings, FRAME, "--areas")[1]
-        self.assertEqual(output, "polygon 1 outer area 900 900\npolygon 1 hole area 100 100\npolygon 2 outer area 4 4\n"
-                                 "area 804 804\n")
+        assert output == \
+            "polygon 1 outer area 900 900\npolygon 1 hole area 100 100\npolygon 2 outer area 4 4\n" "area 804 804\n"
         output = self.asked(rings, CUT, "--areas", "--factor", 10, "--factor-y", 5, "--digits", 3)[1]
-        self.assertEqual(output.splitlines()[1], "area 0.027 2/75")
+        assert output.splitlines()[1] == "area 0.027 2/75"
 
     def test_a_scale_beside_the_store(self) -> None:
         scale = self.file("plan.scale.json", SCALE)
         status, output, errors = self.asked(rings, CUT)
         text = "POLYGON ((500.1 -19.9667, 500.3 -19.9, 500.1 -19.8333, 500.1 -19.9667))\n"
-        self.assertEqual((status, output), (0, text))
-        self.assertIn(f"coordinates of the world by {scale}", errors)
-        self.assertIn("area 0.0133 1/75", self.asked(rings, CUT, "--areas")[1])
-        self.assertEqual(self.asked(rings, CUT, "--factor", 1, "--digits", 2)[1],
-                         "POLYGON ((1 0.33, 3 1, 1 1.67, 1 0.33))\n")
-        self.assertIn(" m; lower left ", self.asked(svg, CUT)[1])
+        assert (status, output) == (0, text)
+        assert f"coordinates of the world by {scale}" in errors
+        assert "area 0.0133 1/75" in self.asked(rings, CUT, "--areas")[1]
+        assert self.asked(rings, CUT, "--factor", 1, "--digits", 2)[1] == "POLYGON ((1 0.33, 3 1, 1 1.67, 1 0.33))\n"
+        assert " m; lower left " in self.asked(svg, CUT)[1]
         scale.write_text("[]")
-        self.assertEqual(self.asked(rings, CUT)[:2], (1, ""))
+        assert self.asked(rings, CUT)[:2] == (1, "")
 
     def test_geojson(self) -> None:
         self.file("plan.scale.json", SCALE)
         status, output, _ = self.asked(export, BOW + CUT, "--layer", "F", "--layer", "W")
         value = json.loads(output)
-        self.assertEqual((status, value["name"], value["crs"]["properties"]["name"]),
-                         (0, "Plan", "urn:ogc:def:crs:EPSG::5514"))
+        assert (status, value["name"], value["crs"]["properties"]["name"]) == (0, "Plan", "urn:ogc:def:crs:EPSG::5514")
         first, second = value["features"]
         self.assertEqual(first["properties"], {"layer": "F", "expression": "T & S", "version": 4, "area": 1 / 75,
                                                "area_exact": "1/75"} | {"area": 0.013333333333})
         self.assertEqual(first["geometry"], {"type": "MultiPolygon", "coordinates": [
             [[[500.1, -19.9667], [500.3, -19.9], [500.1, -19.8333], [500.1, -19.9667]]]]})
-        self.assertEqual(second["properties"], {"layer": "W", "expression": None, "version": 4, "area": 0.08,
-                                                "area_exact": "2/25"})
-        self.assertEqual(second["geometry"]["coordinates"], [
+        assert second["properties"] == \
+            {"layer": "W", "expression": None, "version": 4, "area": 0.08, "area_exact": "2/25"}
+        assert second["geometry"]["coordinates"] == [
             [[[500, -20], [500.2, -19.8], [500, -19.6], [500, -20]]],
-            [[[500.2, -19.8], [500.4, -20], [500.4, -19.6], [500.2, -19.8]]]])
+            [[[500.2, -19.8], [500.4, -20], [500.4, -19.6], [500.2, -19.8]]]]
         value = json.loads(self.asked(export, BOW + CUT, "--layer", "W", "--parts")[1])
-        self.assertEqual([(one["geometry"]["type"], one["properties"]["area_exact"]) for one in value["features"]],
-                         [("Polygon", "1/25"), ("Polygon", "1/25")])
+        assert [(one["geometry"]["type"], one["properties"]["area_exact"]) for one in value["features"]] == \
+            [("Polygon", "1/25"), ("Polygon", "1/25")]
         layers = [one["properties"]["layer"] for one in json.loads(self.asked(export, BOW + CUT)[1])["features"]]
-        self.assertEqual(layers, ["W", "T", "S", "F"])
+        assert layers == ["W", "T", "S", "F"]
         layers = [one["properties"]["layer"]
                   for one in json.loads(self.asked(export, BOW + CUT, "--top")[1])["features"]]
-        self.assertEqual(layers, ["W", "F"])
+        assert layers == ["W", "F"]
 
     def test_holes_and_what_is_empty(self) -> None:
         value = json.loads(self.asked(export, FRAME + "DEFINE N = Frame - Frame\n")[1])
         whole, none = (one["geometry"]["coordinates"] for one in value["features"])
-        self.assertEqual([len(polygon) for polygon in whole], [2, 1])
-        self.assertEqual((none, value["features"][1]["properties"]["area_exact"]), ([], "0"))
-        self.assertEqual(value["crs"]["properties"]["name"][:6], "ENGCRS")  # nowhere on the earth
+        assert [len(polygon) for polygon in whole] == [2, 1]
+        assert (none, value["features"][1]["properties"]["area_exact"]) == ([], "0")
+        assert value["crs"]["properties"]["name"][:6] == "ENGCRS"
 
     def test_words_that_go_not_together(self) -> None:
         for words in (["a.txt"], ["--digits", "101"], ["--factor", "0"], ["--factor", "2", "--scale", "x"],
                       ["--factor", "1e400000000"], ["--factor-y", "1e-400000000"], ["--origin", "0", "1e400000000"]):
             for tool in (rings, svg, export):
-                self.assertEqual(outcome(tool, "--store", "a.db", *words)[:2], (2, ""))
+                assert outcome(tool, "--store", "a.db", *words)[:2] == (2, "")
 
     def test_a_file_that_is_not_there(self) -> None:
         store, absent = self.file("a.db", TRIANGLE), self.folder / "absent"
-        self.assertEqual(outcome(rings, "--store", absent, "--program", self.model()),
-                         (1, "", f"{absent}: no such file\n"))
+        assert outcome(rings, "--store", absent, "--program", self.model()) == (1, "", f"{absent}: no such file\n")
         told = f"{absent}: No such file or directory\n"
-        self.assertEqual(outcome(rings, "--store", store, "--program", absent), (1, "", told))
-        self.assertEqual(outcome(import_, absent), (2, "", told.replace(": No", ": not read: No")))
+        assert outcome(rings, "--store", store, "--program", absent) == (1, "", told)
+        assert outcome(import_, absent) == (2, "", told.replace(": No", ": not read: No"))
 
     def test_a_store_without_a_layer(self) -> None:
         for tool in (rings, svg, export):
-            self.assertEqual(self.asked(tool, ""), (1, "", f"{self.folder}/plan.db: it has no layer\n"))
+            assert self.asked(tool, "") == (1, "", f"{self.folder}/plan.db: it has no layer\n")
 
     def test_a_program_that_fails(self) -> None:
         store = self.file("a.db", TRIANGLE)
         program = self.file("program", "#!/bin/sh\necho 'error 99 odd' >&2\nexit 1\n", 0o700)
         for tool in (rings, svg):
-            self.assertEqual(outcome(tool, "--store", store, "--program", program), (1, "", f"{store}: error 99 odd\n"))
+            assert outcome(tool, "--store", store, "--program", program) == (1, "", f"{store}: error 99 odd\n")
 
 
 class OverStores(WithProgram):
@@ -132,65 +128,64 @@ class OverStores(WithProgram):
         """The outcome of a tool over a store, which stays as it is."""
         before = store.read_bytes()
         found = outcome(tool, "--store", store, "--program", self.program, *words)
-        self.assertEqual(store.read_bytes(), before)
+        assert store.read_bytes() == before
         return found
 
     def test_the_tools_draw_what_is_in_a_store(self) -> None:
         store = self.store("plan.db", BOW + CUT)
-        self.assertEqual(self.asked(rings, store)[:2], (0, "POLYGON ((1 0.333333, 3 1, 1 1.666667, 1 0.333333))\n"))
-        self.assertEqual(self.asked(rings, store, "--layer", "W", "--areas")[1].splitlines()[-1], "area 8 8")
+        assert self.asked(rings, store)[:2] == (0, "POLYGON ((1 0.333333, 3 1, 1 1.666667, 1 0.333333))\n")
+        assert self.asked(rings, store, "--layer", "W", "--areas")[1].splitlines()[-1] == "area 8 8"
         status, output, _ = self.asked(svg, store, "--points", 20)
-        self.assertEqual((status, output.count("<circle") > 99), (0, True))
+        assert (status, output.count("<circle") > 99) == (0, True)
         xml.etree.ElementTree.fromstring(output)
         status, output, _ = self.asked(export, store)
         told = [(one["properties"]["layer"], one["properties"]["version"], one["properties"]["area_exact"])
                 for one in json.loads(output)["features"]]
-        self.assertEqual((status, told), (0, [("W", 4, "8"), ("T", 4, "3"), ("S", 4, "80"), ("F", 4, "4/3")]))
-        self.assertEqual(self.asked(rings, store, "--layer", "Q"), (1, "", "Q: no layer has this name\n"))
+        assert (status, told) == (0, [("W", 4, "8"), ("T", 4, "3"), ("S", 4, "80"), ("F", 4, "4/3")])
+        assert self.asked(rings, store, "--layer", "Q") == (1, "", "Q: no layer has this name\n")
 
     def test_the_same_as_of_the_model(self) -> None:
         store, script = self.store("plan.db", FRAME + CUT), self.file("plan.txt", FRAME + CUT)
         for layer in ("F", "Frame"):
             for tool in (rings, svg, export):
                 wanted = outcome(tool, "--store", script, "--program", self.model(), "--layer", layer)
-                self.assertEqual(self.asked(tool, store, "--layer", layer), wanted)
+                assert self.asked(tool, store, "--layer", layer) == wanted
 
     def test_a_store_comes_back_from_its_script(self) -> None:
         script = FRAME + CUT + "DEFINE G = (F - T) ^ S\nPUT Last MULTIPOLYGON EMPTY\nDROP W\n"
         store = self.store("plan.db", BOW + script)
         status, output, errors = outcome(dump, store, "--program", self.program)
-        self.assertEqual((status, errors), (0, ""))
-        self.assertEqual([line.split()[:2] for line in output.splitlines()], [
-            ["PUT", "Frame"], ["PUT", "T"], ["PUT", "S"], ["DEFINE", "F"], ["DEFINE", "G"], ["PUT", "Last"]])
+        assert (status, errors) == (0, "")
+        assert [line.split()[:2] for line in output.splitlines()] == \
+            [["PUT", "Frame"], ["PUT", "T"], ["PUT", "S"], ["DEFINE", "F"], ["DEFINE", "G"], ["PUT", "Last"]]
         again = self.store("again.db", output)
-        self.assertEqual(outcome(dump, again, "--program", self.program)[1], output)
+        assert outcome(dump, again, "--program", self.program)[1] == output
         first, second = (json.loads(self.asked(export, one)[1])["features"] for one in (store, again))
-        self.assertEqual([one["geometry"] for one in first], [one["geometry"] for one in second])
-        self.assertEqual({one["properties"]["version"] for one in second}, {6})
+        assert [one["geometry"] for one in first] == [one["geometry"] for one in second]
+        assert {one["properties"]["version"] for one in second} == {6}
 
     def test_a_store_that_another_program_holds(self) -> None:
         store = self.store("plan.db", CUT)
         with store.open("rb+") as file:
             fcntl.flock(file, fcntl.LOCK_EX)
             for tool, words in ((rings, "--store"), (dump, ""), (which, "1 1 --store")):
-                self.assertEqual(outcome(tool, *words.split(), store, "--program", self.program),
-                                 (1, "", f"{store}: another program holds it, and may write\n"))
-        self.assertEqual(self.asked(rings, store)[0], 0)
+                assert outcome(tool, *words.split(), store, "--program", self.program) == \
+                    (1, "", f"{store}: another program holds it, and may write\n")
+        assert self.asked(rings, store)[0] == 0
 
     def test_files_that_are_no_store(self) -> None:
         none = self.file("none.db", "no store")
-        self.assertEqual(outcome(rings, "--store", none, "--program", self.program),
-                         (1, "", f"{none}: error 32 not a store\n"))
-        self.assertEqual(outcome(dump, self.folder / "absent", "--program", self.program)[0], 1)
-        self.assertEqual(outcome(dump, self.folder, "--program", self.program),
-                         (1, "", f"{self.folder}: a folder, and no store\n"))
+        assert outcome(rings, "--store", none, "--program", self.program) == (1, "", f"{none}: error 32 not a store\n")
+        assert outcome(dump, self.folder / "absent", "--program", self.program)[0] == 1
+        assert outcome(dump, self.folder, "--program", self.program) == \
+            (1, "", f"{self.folder}: a folder, and no store\n")
         unready = self.store("unready.db", "")
         told = (f"{unready}: it has no version yet, or its last commit was cut off; this opens it to write: "
                 f"overlay_live --store {unready} </dev/null\n")
-        self.assertEqual(self.asked(rings, unready), (1, "", told))
+        assert self.asked(rings, unready) == (1, "", told)
         empty = self.store("empty.db", f"PUT A {SQUARE}\nDROP A\n")
-        self.assertEqual(self.asked(rings, empty), (1, "", f"{empty}: it has no layer\n"))
-        self.assertEqual(outcome(dump, empty, "--program", self.program), (0, "", ""))
+        assert self.asked(rings, empty) == (1, "", f"{empty}: it has no layer\n")
+        assert outcome(dump, empty, "--program", self.program) == (0, "", "")
 
     def test_a_store_in_the_place_of_a_map(self) -> None:
         store = self.store("map.db", CUT)
@@ -202,8 +197,8 @@ class OverStores(WithProgram):
         nowhere = unittest.mock.patch.object(program_files, "TOP", pathlib.Path("/nowhere"))
         with nowhere, unittest.mock.patch.dict("os.environ", PATH=""):
             status, output, errors = outcome(rings, "--store", self.file("plan.db", CUT))
-        self.assertEqual((status, output), (1, ""))
-        self.assertIn("no program: overlay_live is neither built in /nowhere nor on the path; say --program", errors)
+        assert (status, output) == (1, "")
+        assert "no program: overlay_live is neither built in /nowhere nor on the path; say --program" in errors
 
     def test_points_in_layers(self) -> None:
         store = self.store("plan.db", BOW + CUT)
@@ -211,30 +206,30 @@ class OverStores(WithProgram):
         points = self.file("points.txt", "500.2 -19.9\n500.01,-19.85\r\n500.1 -19.9\n\n507;-10\n500.100001 -19.9\n")
         status, output, errors = self.asked(which, store, "--points", points)
         # In whole numbers 2 1, 0.1 1.5, 1 1, 70 100, and nearest to 1.00001 1 the point 1 1 again.
-        self.assertEqual((status, output), (0, "F\nW\nedge\tW\tF\n\nedge\tW\tF\n"))
-        self.assertEqual(errors, "asked at 500.1 -19.9, which is nearest to 500.100001 -19.9\n")
-        self.assertEqual(self.asked(which, store, "--", "-1", "2")[:2], (0, "\n"))
+        assert (status, output) == (0, "F\nW\nedge\tW\tF\n\nedge\tW\tF\n")
+        assert errors == "asked at 500.1 -19.9, which is nearest to 500.100001 -19.9\n"
+        assert self.asked(which, store, "--", "-1", "2")[:2] == (0, "\n")
 
     def test_a_point_that_is_none_takes_no_answer_along(self) -> None:
         store = self.store("plan.db", BOW + CUT)
         self.file("plan.scale.json", SCALE)
         beyond = "point out of range: x is -104357.6 to 105357.6, y -104877.6 to 104837.6"
-        self.assertEqual(self.asked(which, store, "999999", "2"), (1, f"error\t999999 2: {beyond}\n", ""))
+        assert self.asked(which, store, "999999", "2") == (1, f"error\t999999 2: {beyond}\n", "")
         none = "no number, or one that is too long"
-        self.assertEqual(self.asked(which, store, "1", "x"), (1, f"error\t1 x: {none}: x\n", ""))
-        self.assertEqual(self.asked(which, store, "500,2", "19,9"), (
-            1, "error\t500,2 19,9: two numbers are a point; 1,5 are two of them, 1.5 is one\n", ""))
+        assert self.asked(which, store, "1", "x") == (1, f"error\t1 x: {none}: x\n", "")
+        assert self.asked(which, store, "500,2", "19,9") == \
+            (1, "error\t500,2 19,9: two numbers are a point; 1,5 are two of them, 1.5 is one\n", "")
         points = self.file("points.txt", "\ufeff# x y\n500.2 -19.9\n\n  # far out:\n 1e99; -19.9\n500.01,-19.85\r\n"
                                          f"7\n1 2 3\n{'9' * 100} 1\n507;-10\n")
         status, output, errors = self.asked(which, store, "--points", points)
-        self.assertEqual((status, errors), (1, ""))
-        self.assertEqual(output.splitlines(), [
+        assert (status, errors) == (1, "")
+        assert output.splitlines() == [
             "F", f"error\t1e99; -19.9: {beyond}", "W", "error\t7: two numbers are a point",
-            "error\t1 2 3: two numbers are a point", f"error\t{'9' * 80} ..: {none}: {'9' * 40}", ""])
+            "error\t1 2 3: two numbers are a point", f"error\t{'9' * 80} ..: {none}: {'9' * 40}", ""]
         for text in ("", "#\n\n"):
-            self.assertEqual(self.asked(which, store, "--points", self.file("none.txt", text)), (0, "", ""))
+            assert self.asked(which, store, "--points", self.file("none.txt", text)) == (0, "", "")
         edge = self.file("edge.txt", "105357.6 0\n105357.7 0\n")  # 2^20 / 10 + 500 is the last that is in range
-        self.assertEqual(self.asked(which, store, "--points", edge)[:2], (1, f"\nerror\t105357.7 0: {beyond}\n"))
+        assert self.asked(which, store, "--points", edge)[:2] == (1, f"\nerror\t105357.7 0: {beyond}\n")
 
 
 class ProgramsThatAreFound(InFolder):
@@ -248,7 +243,7 @@ class ProgramsThatAreFound(InFolder):
         at_top = unittest.mock.patch.object(program_files, "TOP", top)
         with at_top, unittest.mock.patch.dict("os.environ", PATH=str(path)):
             for place in places:
-                self.assertEqual(program_files.found_program(), str(place))
+                assert program_files.found_program() == str(place)
                 place.unlink()
             with self.assertRaisesRegex(Unusable,
                                         "overlay_live is neither built in .* nor on the path; say --program PATH"):
@@ -264,11 +259,11 @@ class ProgramsThatAreFound(InFolder):
             builder.write_text("import pathlib, sys\npathlib.Path(sys.argv[-1]).write_text(' '.join(sys.argv[1:3]))\n")
             told = self.enterContext(contextlib.redirect_stderr(io.StringIO()))
             built = program_files.found_program()
-            self.assertEqual((built, pathlib.Path(built).read_text()),
-                             (str(top / "overlay_live"), f"--unchecked {top}/crates/overlay_live/src"))
-            self.assertTrue(told.getvalue().startswith("overlay_live is not built yet: it is now, unproved, "))
+            assert (built, pathlib.Path(built).read_text()) == \
+                (str(top / "overlay_live"), f"--unchecked {top}/crates/overlay_live/src")
+            assert told.getvalue().startswith("overlay_live is not built yet: it is now, unproved, ")
             pathlib.Path(built).unlink()
             builder.write_text("import sys\nsys.exit('line\\nno room')\n")
             with self.assertRaisesRegex(Unusable, "^overlay_live cannot be built: no room$"):
                 program_files.found_program()
-            self.assertEqual([one.name for one in top.glob(".built-*")], [])
+            assert [one.name for one in top.glob(".built-*")] == []

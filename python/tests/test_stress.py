@@ -28,9 +28,9 @@ class Together(FrontCase):
     def test_each_answer_is_of_one_version(self) -> None:
         stress = Stress(self.new_ask, SECONDS)
         stress.run()
-        self.assertEqual(stress.faults[:5], [], stress.counted)
+        assert stress.faults[:5] == [], stress.counted
         for kind in ("change", "locate", "items", "tiles", "collections"):
-            self.assertGreater(stress.counted[kind], 0, stress.counted)
+            assert stress.counted[kind] > 0, stress.counted
 
 
 class Views(FrontCase):
@@ -41,19 +41,19 @@ class Views(FrontCase):
         with self.store.view() as view:
             change.start()
             change.join(0.3)
-            self.assertTrue(change.is_alive())
-            self.assertEqual(view.locate(["A", "I"], (1, 1, 1)), {"A": "in", "I": "in"})
+            assert change.is_alive()
+            assert view.locate(["A", "I"], (1, 1, 1)) == {"A": "in", "I": "in"}
         change.join(60)
-        self.assertEqual(self.client.get("/locate?x=1&y=1")["places"], {"A": "out", "I": "out"})
+        assert self.client.get("/locate?x=1&y=1")["places"] == {"A": "out", "I": "out"}
 
     def test_who_waits_too_long_is_told_to_ask_again(self) -> None:
         self.enterContext(unittest.mock.patch.object(layer_store, "TURN", 0.05))
         with self.store.view():
             found = self.client.ask("/collections/N", "PUT", {"definition": "A"})
-        self.assertEqual((found.status, found.headers["Retry-After"]), (503, "1"))
-        self.assertEqual(self.client.ask("/collections/N").status, 404)
+        assert (found.status, found.headers["Retry-After"]) == (503, "1")
+        assert self.client.ask("/collections/N").status == 404
         with self.store._hold.alone(1):
-            self.assertEqual(self.client.ask("/locate?x=1&y=1").headers["Retry-After"], "1")
+            assert self.client.ask("/locate?x=1&y=1").headers["Retry-After"] == "1"
 
 
 class Holds(unittest.TestCase):
@@ -83,4 +83,4 @@ class Holds(unittest.TestCase):
                     threading.Event().wait(0.001)
         for one in threads:
             one.join()
-        self.assertEqual(order, ["0", "1", "2", "3"])
+        assert order == ["0", "1", "2", "3"]

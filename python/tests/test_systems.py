@@ -47,9 +47,9 @@ PARAMETER["False northing",50000]],CS[Cartesian,2],AXIS["(E)",east],AXIS["(N)",n
 
 class Names(unittest.TestCase):
     def test_coordinates_of_another_authority_are_served_as_they_are(self) -> None:
-        self.assertEqual(MapScale(scales.Scale(crs="EPSG:25832")).crs, "EPSG:25832")
+        assert MapScale(scales.Scale(crs="EPSG:25832")).crs == "EPSG:25832"
         other = MapScale(scales.Scale(crs="ESRI:102003"))
-        self.assertEqual((other.crs, other.uri(), other.is_geographic()), (None, None, False))
+        assert (other.crs, other.uri(), other.is_geographic()) == (None, None, False)
         for name in ("nonsense", "EPSG:", "a b:1"):
             with self.assertRaisesRegex(scales.ScaleFault,
                                         "an authority and its code, as EPSG:25832, or Well-Known Text, and not "
@@ -71,25 +71,25 @@ class Projected(FrontCase):
         self.client.change("/collections/land", "PUT", {"definition": "plan"})
         self.wait_for("land")
         for layer in ("plan", "land"):
-            self.assertEqual(self.ring("", layer), (f"<{CRS84}>", degrees(EAST)))
-            self.assertEqual(self.ring(f"?crs={CRS84}", layer), (f"<{CRS84}>", degrees(EAST)))
-            self.assertEqual(self.ring(f"?crs={OWN}", layer), (f"<{OWN}>", swapped(EAST)))
+            assert self.ring("", layer) == (f"<{CRS84}>", degrees(EAST))
+            assert self.ring(f"?crs={CRS84}", layer) == (f"<{CRS84}>", degrees(EAST))
+            assert self.ring(f"?crs={OWN}", layer) == (f"<{OWN}>", swapped(EAST))
         for words in ("", f"?crs={OWN}"):
             page = self.client.ask(f"/collections/plan/items{words}")
-            self.assertEqual(page.value["features"][1]["geometry"]["coordinates"], [self.ring(words)[1]])
-            self.assertEqual(page.headers["Content-Crs"], self.ring(words)[0])
-        self.assertEqual(self.client.ask("/collections/plan/items?crs=http://elsewhere").status, 400)
+            assert page.value["features"][1]["geometry"]["coordinates"] == [self.ring(words)[1]]
+            assert page.headers["Content-Crs"] == self.ring(words)[0]
+        assert self.client.ask("/collections/plan/items?crs=http://elsewhere").status == 400
 
     def test_collections_tell_their_systems_and_where_they_lie(self) -> None:
         found = self.client.get("/collections/plan")
-        self.assertEqual((found["crs"], found["storageCrs"]), ([CRS84, OWN], OWN))
-        self.assertEqual(found["extent"]["spatial"], {"bbox": [[0, 30, 34 / 8, 30 + 10 / 16]], "crs": CRS84})
-        self.assertEqual(found["box"], [0, 0, 34, 10])
+        assert (found["crs"], found["storageCrs"]) == ([CRS84, OWN], OWN)
+        assert found["extent"]["spatial"] == {"bbox": [[0, 30, 34 / 8, 30 + 10 / 16]], "crs": CRS84}
+        assert found["box"] == [0, 0, 34, 10]
         classes = self.client.get("/conformance")["conformsTo"]
-        self.assertIn("http://www.opengis.net/spec/ogcapi-features-1/1.0/conf/core", classes)
-        self.assertIn("http://www.opengis.net/spec/ogcapi-features-2/1.0/conf/crs", classes)
+        assert "http://www.opengis.net/spec/ogcapi-features-1/1.0/conf/core" in classes
+        assert "http://www.opengis.net/spec/ogcapi-features-2/1.0/conf/crs" in classes
         status = self.client.get("/status")
-        self.assertEqual((status["storage"], status["y_first"], status["geographic"]), (OWN, True, False))
+        assert (status["storage"], status["y_first"], status["geographic"]) == (OWN, True, False)
 
     def test_boxes_are_of_the_system_that_is_said(self) -> None:
         for words, wanted in (
@@ -99,26 +99,26 @@ class Projected(FrontCase):
             (f"bbox=30,0,34,4&bbox-crs={OWN}", []), ("bbox=170,-90,0.5,90", [1]), ("bbox=-540,-99,540,99", [1, 2, 3]),
         ):
             found = self.client.get(f"/collections/plan/items?{words}")["features"]
-            self.assertEqual([one["id"] for one in found], wanted, words)
-        self.assertEqual(self.client.ask(f"/collections/plan/items?bbox=5,5,4,4&bbox-crs={OWN}").status, 400)
+            assert [one["id"] for one in found] == wanted, words
+        assert self.client.ask(f"/collections/plan/items?bbox=5,5,4,4&bbox-crs={OWN}").status == 400
         for box in ("480000,5400000,480100,5400100", "400,30,500,31", "0,91,1,92", "0,-92,1,-91"):
             told = self.client.ask(f"/collections/plan/items?bbox={box}")
-            self.assertEqual((told.status, told.value["description"]), (
-                400, f"bbox: it is in degrees where bbox-crs names nothing else, as {OWN}"))
+            assert (told.status, told.value["description"]) == \
+                (400, f"bbox: it is in degrees where bbox-crs names nothing else, as {OWN}")
 
     def test_a_point_is_of_the_stores_own_system_and_one_out_of_the_plane_is_told_so(self) -> None:
-        self.assertEqual(self.client.get("/locate?x=33&y=3")["point"], [33, 3])
+        assert self.client.get("/locate?x=33&y=3")["point"] == [33, 3]
         for page in ("/locate", "/collections/plan/locate"):
             told = self.client.ask(f"{page}?x=139.7&y=3e7")
-            self.assertEqual((told.status, told.value["code"], told.value["description"]), (
+            assert (told.status, told.value["code"], told.value["description"]) == (
                 400, "20",
-                f"error 20 point out of range: it is out of the plane; x and y, in this order, are those of {OWN}"))
+                f"error 20 point out of range: it is out of the plane; x and y, in this order, are those of {OWN}")
 
     def test_a_place_that_the_projection_lacks_is_told(self) -> None:
         self.client.change("/collections/far", "PUT", {
             "type": "Polygon", "coordinates": [[[2000, 1000], [2000, 1009], [2009, 1009], [2000, 1000]]]})
         told = self.client.ask("/collections/far/items/1")
-        self.assertEqual((told.status, told.value["description"]), (409, "too far"))
+        assert (told.status, told.value["description"]) == (409, "too far")
 
 
 class Unchanged(FrontCase):
@@ -129,11 +129,11 @@ class Unchanged(FrontCase):
 
     def test_nothing_is_transformed(self) -> None:
         told = self.client.ask("/collections/A/items")
-        self.assertEqual(told.value["features"][0]["geometry"]["coordinates"], [[[0, 0], [4, 0], [4, 2], [0, 0]]])
-        self.assertEqual(told.headers["Content-Crs"], f"<{OWN}>")
-        self.assertEqual(self.client.get("/conformance"), {"conformsTo": []})
+        assert told.value["features"][0]["geometry"]["coordinates"] == [[[0, 0], [4, 0], [4, 2], [0, 0]]]
+        assert told.headers["Content-Crs"] == f"<{OWN}>"
+        assert self.client.get("/conformance") == {"conformsTo": []}
         told = self.client.ask(f"/collections/A/items?crs={CRS84}")
-        self.assertEqual((told.status, "nothing is transformed" in told.value["description"]), (400, True))
+        assert (told.status, "nothing is transformed" in told.value["description"]) == (400, True)
 
 
 class OfAnotherAuthority(FrontCase):
@@ -142,8 +142,8 @@ class OfAnotherAuthority(FrontCase):
 
     def test_a_point_out_of_the_plane_is_told_the_system(self) -> None:
         told = self.client.ask("/locate?x=3e7&y=0")
-        self.assertTrue(told.value["description"].endswith("are those of ESRI:102003"), told.value)
-        self.assertEqual(self.client.get("/status")["crs"], "ESRI:102003")
+        assert told.value["description"].endswith("are those of ESRI:102003"), told.value
+        assert self.client.get("/status")["crs"] == "ESRI:102003"
 
 
 class OfNoAuthority(FrontCase):
@@ -151,11 +151,11 @@ class OfNoAuthority(FrontCase):
     scale = {"factor": 1, "crs": CITY}
 
     def test_its_text_is_told_and_coordinates_are_as_they_are(self) -> None:
-        self.assertEqual(self.client.get("/status")["crs"], CITY)
+        assert self.client.get("/status")["crs"] == CITY
         told = self.client.ask("/collections/A/items")
-        self.assertEqual(told.value["features"][0]["geometry"]["coordinates"], [[[0, 0], [4, 0], [4, 2], [0, 0]]])
+        assert told.value["features"][0]["geometry"]["coordinates"] == [[[0, 0], [4, 0], [4, 2], [0, 0]]]
         told = self.client.ask("/locate?x=3e7&y=0")
-        self.assertTrue(told.value["description"].endswith('are those of "A city\'s own"'), told.value)
+        assert told.value["description"].endswith('are those of "A city\'s own"'), told.value
 
 
 class OfAnUnknownSystem(FrontCase):
@@ -163,7 +163,7 @@ class OfAnUnknownSystem(FrontCase):
     scale = {"factor": 1, "crs": None}
 
     def test_nothing_is_told_of_it(self) -> None:
-        self.assertEqual((self.client.get("/status")["crs"], self.client.get("/status")["geographic"]), (None, False))
+        assert (self.client.get("/status")["crs"], self.client.get("/status")["geographic"]) == (None, False)
 
 
 class ByPyproj(unittest.TestCase):
@@ -178,7 +178,7 @@ class ByPyproj(unittest.TestCase):
             [x], [y] = projection.forward([place[0]], [place[1]])
             self.assertAlmostEqual(x, wanted[0], 9)
             self.assertAlmostEqual(y, wanted[1], 9)
-            self.assertEqual(projection.y_first, crs == "EPSG:30169")
+            assert projection.y_first == (crs == "EPSG:30169")
             [x], [y] = projection.inverse([x], [y])
             self.assertAlmostEqual(x, place[0], 6)
             self.assertAlmostEqual(y, place[1], 6)
