@@ -4,6 +4,8 @@ import pathlib
 
 import pytest
 
+from overlayd.api.asking import VARIABLE
+
 from . import testing
 from .common import TOP, Programs
 
@@ -22,6 +24,12 @@ def pytest_configure(config: pytest.Config) -> None:
     found = [str(path.resolve()) if (path := config.getoption(word)).is_file() else None for word in BUILT]
     Programs.batched, Programs.live, Programs.features = found
     testing.PROGRAM = Programs.live or testing.PROGRAM
+
+
+@pytest.fixture
+def named_program(monkeypatch: pytest.MonkeyPatch) -> None:
+    """The program of features, as the environment names it to functions over frames."""
+    monkeypatch.setenv(VARIABLE, str(Programs.features))
 
 
 def pytest_runtest_setup(item: pytest.Item) -> None:

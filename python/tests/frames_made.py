@@ -1,20 +1,12 @@
 """GeoDataFrames for tests: maps of rectangles in whole numbers, of which GEOS's overlays are exact, and others."""
 
-import functools
 import math
 import random
 from typing import Any
 
 import geopandas
-import pytest
 from shapely import affinity
 from shapely.geometry import Polygon, box
-
-from overlayd.kernel import Ask, Wants, overlay
-from overlayd.kernel.columns import of_bytes
-from overlayd.kernel.rows import BlockRefused
-
-from .common import Programs
 
 SYSTEM = "EPSG:25832"
 
@@ -60,23 +52,3 @@ def stars(seed: int, count: int) -> Any:
         shapes.append(Polygon([(x + source.uniform(2, 9) * math.cos(t), y + source.uniform(2, 9) * math.sin(t))
                                for t in turns]))
     return geopandas.GeoDataFrame({"star": range(count)}, geometry=shapes, crs=SYSTEM)
-
-
-@functools.cache
-def makes_outlines(program: str) -> bool:
-    """Whether a program makes outlines; one that does not refuses each block that wants them."""
-    square = of_bytes([box(0, 0, 1, 1).wkb])
-    try:
-        overlay(square, square, Ask(program, Wants.OUTLINES))
-    except BlockRefused as refused:
-        assert refused.fault == 84
-        return False
-    return True
-
-
-def need_outlines() -> str:
-    """The program, where it makes outlines."""
-    assert Programs.features is not None
-    if not makes_outlines(Programs.features):
-        pytest.skip("this overlay_features makes no outlines")
-    return Programs.features

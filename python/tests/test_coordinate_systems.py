@@ -10,7 +10,6 @@ import pytest
 
 from overlayd.commands import check, derive, export as to_geojson, import_ as to_script, pairs, pieces
 from overlayd.files import coordinate_systems
-from overlayd.kernel import Ask
 from .common import OVERLAY, SECONDS, Programs, outcome
 from .test_forms import WithGdal
 
@@ -88,8 +87,6 @@ class WithSystems(WithGdal):
 
     def overlay(self, first: pathlib.Path, second: pathlib.Path, end: str) -> Any:
         """The system of the pieces of two maps."""
-        if Programs.features is None or not Ask(Programs.features).makes_outlines():
-            self.skipTest("no built overlay_features that makes outlines: --features names it")
         path = self.folder / f"pieces{end}"
         words = [first, second, "--factor", 10, "--pieces", path, "--program", Programs.features, "--jobs", 1,
                  "--no-audit"]
@@ -164,6 +161,7 @@ class Nameless(WithSystems):
             again, _ = self.script(self.folder / f"written{end}")
             assert coordinate_systems.are_one(again, found), again
 
+    @pytest.mark.features
     def test_pieces_have_the_system_of_their_maps(self) -> None:
         first = self.shapefile(text_of(NAMELESS["a city"]), "first")
         second = self.made("second.gpkg", str(first), "-a_srs", NAMELESS["a city"])
@@ -230,6 +228,7 @@ class Unknown(WithSystems):
             assert (again, "the coordinate system is unknown" in errors) == (None, True)
         assert self.script(path, "--crs", "EPSG:25832")[0] == "EPSG:25832"
 
+    @pytest.mark.features
     def test_pieces_of_such_maps_are_of_a_plane(self) -> None:
         path = self.shapefile(None)
         for end in (".geojson", ".gpkg"):

@@ -18,7 +18,7 @@ from overlayd.kernel.membership import members_of, overlapping
 from overlayd.kernel.overlaying import overlay_within, pairs_in
 from overlayd.kernel.piecing import alone, layers_of_map
 
-from .test_kernel_overlays import GRID, asked, has_outlines
+from .test_kernel_overlays import GRID, asked
 
 pytestmark = pytest.mark.features
 NEAR = 1e-9  # by which shapely's areas, of doubles, may differ in proportion
@@ -57,12 +57,10 @@ def test_two_deep_maps_and_a_plain_one() -> None:
 def test_check_of_many_over_one_place_closes_and_has_all_overlaps_and_the_gap() -> None:
     ring = box(3000, 3000, 3010, 3010) - box(3002, 3002, 3005, 3006)
     shapes = [*quadrilaterals(8, 60), ring]
-    wants = Wants.OUTLINES if has_outlines() else Wants.NOTHING
-    found = check(column_of(shapes), asked(wants))
+    found = check(column_of(shapes), asked(Wants.OUTLINES))
     assert len(found.overlaps) == 60 * 59 // 2 and not len(found.unanswered)
     assert near(found.covered.exact(0), unary_union(shapes)) and found.audit.closes()
-    if found.gaps is not None:
-        assert found.gaps.areas.tolist() == [12.0]
+    assert found.gaps is not None and found.gaps.areas.tolist() == [12.0]
 
 
 @pytest.mark.parametrize("count", (30, 100))

@@ -9,20 +9,12 @@ import pandas as pd
 import pytest
 
 import overlayd
-from overlayd.api.asking import VARIABLE
 from overlayd.api.pairing import PREDICATES
 
 from . import frames_made as made
 from . import slabs
-from .common import Programs
 
-pytestmark = pytest.mark.features
-
-
-@pytest.fixture(autouse=True)
-def program(monkeypatch: pytest.MonkeyPatch) -> None:
-    assert Programs.features is not None
-    monkeypatch.setenv(VARIABLE, Programs.features)
+pytestmark = [pytest.mark.features, pytest.mark.usefixtures("named_program")]
 
 
 def wanted(predicate: str, first: Any, second: Any) -> bool:
@@ -54,16 +46,14 @@ def corners(shape: Any) -> slabs.Ring:
 
 def test_areas_are_within_their_bounds() -> None:
     left, right = (made.stars(seed, 12).assign(geometry=lambda frame: frame.geometry.apply(whole)) for seed in (1, 2))
-    assert Programs.features is not None
-    is_exact = made.makes_outlines(Programs.features)
-    found = overlayd.pairs(left, right, exact="fraction" if is_exact else None)
+    found = overlayd.pairs(left, right, exact="fraction")
     assert len(found) > 30
     for row in found.itertuples():
         first, second = (corners(frame.geometry.iloc[place]) for frame, place in (
             (left, row.star_left), (right, row.star_right)))
         area = slabs.common([first], [second])
         assert abs(Fraction(row.shared_area) - area) <= Fraction(row.shared_area_bound)
-        assert not is_exact or row.fraction == area
+        assert row.fraction == area
 
 
 def whole(shape: Any) -> Any:

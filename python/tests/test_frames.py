@@ -3,7 +3,7 @@
 import subprocess
 import sys
 import warnings
-from collections.abc import Callable, Iterator
+from collections.abc import Callable
 from fractions import Fraction
 from typing import Any
 
@@ -15,22 +15,14 @@ import pytest
 from shapely.geometry import LineString, MultiPolygon, Point, Polygon, box
 
 import overlayd
-from overlayd.api.asking import VARIABLE, NoAnswer, NotInMetres
+from overlayd.api.asking import NoAnswer, NotInMetres
 from overlayd.api.overlaying import HOWS
 
 from . import frames_made as made
 from .common import SOURCES, TOP
 
 MAPS = TOP / "examples" / "maps"
-pytestmark = pytest.mark.features
-
-
-@pytest.fixture(autouse=True)
-def program(monkeypatch: pytest.MonkeyPatch) -> Iterator[str]:
-    """The program of these tests, which makes outlines, as the environment names it."""
-    found = made.need_outlines()
-    monkeypatch.setenv(VARIABLE, found)
-    yield found
+pytestmark = [pytest.mark.features, pytest.mark.usefixtures("named_program")]
 
 
 def same(own: Any, theirs: Any) -> None:

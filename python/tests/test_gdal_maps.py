@@ -11,6 +11,7 @@ import subprocess
 import sys
 from collections.abc import Iterator, Sequence
 
+import pytest
 from osgeo import gdal, ogr, osr
 
 from overlayd.commands import check, map_words
@@ -18,7 +19,6 @@ from overlayd.ending import Unusable
 from overlayd.files import gdal_writing, map_columns
 from overlayd.files.arrow_reading import ReadingFault
 from overlayd.files.map_columns import MapColumn
-from overlayd.kernel import Ask
 from overlayd.kernel.shapes import shapes
 from .common import SOURCES, TOP, InFolder, Programs, outcome
 
@@ -227,13 +227,9 @@ class Missing(WithFiles):
                 "/usr/bin/python3\n")
 
 
+@pytest.mark.features
 class OverTool(WithFiles):
     """The tool over a small map by GDAL, beside the same map as GeoJSON."""
-
-    def setUp(self) -> None:
-        super().setUp()
-        if Programs.features is None:
-            self.skipTest("no built overlay_features: --features names it")
 
     def test_a_map_by_gdal_has_the_table_of_its_geojson(self) -> None:
         rings = [[(x + 7 * (k % 4), y + 7 * (k // 4)) for x, y in RING] for k in range(16)]
@@ -243,12 +239,11 @@ class OverTool(WithFiles):
         tables = []
         for path in (geojson, self.made(*[f"POLYGON {text_of(ring)}" for ring in rings], crs=4326)):
             words = ["--factor", "1", "--a-id", "nr", "--program", Programs.features, "--jobs", "1"]
-            gaps = ["--gaps", self.folder / "gaps.gpkg"] if Ask(str(Programs.features)).makes_outlines() else []
-            status, table, told = outcome(check, path, *words, *gaps)
+            status, table, told = outcome(check, path, *words, "--gaps", self.folder / "gaps.gpkg")
             assert status == 0, told
             tables.append(table)
         assert tables[0] == tables[1]
         # A square overlaps its neighbours to the right and above by 3 x 10, and those across by 3 x 3: 12, 12, 9 and 9.
         areas = sorted(float(row["area"]) for row in csv.DictReader(io.StringIO(tables[0])))
         assert areas == [9.0] * 18 + [30.0] * 24
-        assert (self.folder / "gaps.gpkg").is_file() == bool(gaps)
+        assert (self.folder / "gaps.gpkg").is_file()

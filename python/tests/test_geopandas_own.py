@@ -10,7 +10,6 @@ import xml.etree.ElementTree as ElementTree
 
 import pytest
 
-from . import frames_made as made
 from .common import SOURCES, TOP, Programs
 
 pytestmark = pytest.mark.features
@@ -42,23 +41,22 @@ def passed(file: pathlib.Path) -> set[str]:
     return {f"{case.get('classname')}::{case.get('name')}" for case in cases if not len(case)}
 
 
-def compared(folder: pathlib.Path, words: list[str], program: str) -> tuple[set[str], set[str]]:
+def compared(folder: pathlib.Path, words: list[str]) -> tuple[set[str], set[str]]:
     """What geopandas passes, and what overlayd does."""
-    runs = [run(folder, "theirs.xml", words, None), run(folder, "own.xml", words, program)]
+    runs = [run(folder, "theirs.xml", words, None), run(folder, "own.xml", words, Programs.features)]
     for one in runs:
         assert one.wait(timeout=SECONDS) in (0, 1)
     return passed(folder / "theirs.xml"), passed(folder / "own.xml")
 
 
 def test_an_overlay_passes_the_tests_of_geopandas(tmp_path: pathlib.Path) -> None:
-    theirs, own = compared(tmp_path, OVERLAY, made.need_outlines())
+    theirs, own = compared(tmp_path, OVERLAY)
     assert len(theirs) == PASSED["overlay"]
     assert {one.rpartition("::")[2] for one in theirs - own} == OTHERS
 
 
 def test_pairs_pass_the_tests_of_sjoin(tmp_path: pathlib.Path) -> None:
     """But for those that call it by the word op, which geopandas has given up since, and one that wants its name."""
-    assert Programs.features is not None
-    theirs, own = compared(tmp_path, SJOIN, Programs.features)
+    theirs, own = compared(tmp_path, SJOIN)
     assert len(theirs) == PASSED["sjoin"]
     assert all(map(DEPRECATED.search, theirs - own)) and len(theirs & own) == 89

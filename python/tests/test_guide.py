@@ -13,10 +13,8 @@ import warnings
 
 import pytest
 
-from overlayd.api.asking import VARIABLE
 from overlayd_lab import complaints
 
-from . import frames_made as made
 from .common import SECONDS, TOP, Programs
 from .test_pages import commands_of
 
@@ -24,7 +22,7 @@ GUIDE = TOP / "docs" / "guide"
 INDEX, IN_QGIS, COMPLAINTS = "README.md", "in-qgis.md", "complaints.md"  # the last two have tests of their own
 FIRST_SCREEN = "../../README.md"
 PAGES = sorted(page.name for page in GUIDE.glob("*.md"))
-pytestmark = pytest.mark.features
+pytestmark = [pytest.mark.features, pytest.mark.usefixtures("named_program")]
 
 
 def run_commands(text: str, environment: dict[str, str]) -> int:
@@ -53,7 +51,6 @@ def run_python(text: str) -> int:
 def test_a_page_writes_what_it_says(page: str, tmp_path: pathlib.Path, monkeypatch: pytest.MonkeyPatch) -> None:
     if page == "keep-it-current.md" and not shutil.which("ogrinfo"):
         pytest.skip("no ogrinfo: apt-get install gdal-bin")
-    monkeypatch.setenv(VARIABLE, made.need_outlines())
     (tmp_path / "programs").mkdir()
     (tmp_path / "programs" / "overlay_features").symlink_to(str(Programs.features))
     for name in ("overlay", "tools", "examples", "docs"):
@@ -71,7 +68,6 @@ def test_the_index_has_every_page() -> None:
     assert sorted([INDEX, *listed]) == PAGES and len(PAGES) > 2
 
 
-def test_the_table_of_complaints_is_what_its_script_writes(monkeypatch: pytest.MonkeyPatch) -> None:
-    monkeypatch.setenv(VARIABLE, made.need_outlines())
+def test_the_table_of_complaints_is_what_its_script_writes() -> None:
     text = (GUIDE / COMPLAINTS).read_text()
     assert complaints.page(text) == text

@@ -23,7 +23,7 @@ from overlayd.kernel.deriving import NoMap, UnknownMap
 from overlayd.kernel.laying import What, lay
 from overlayd.kernel.spelling import name_of
 from overlayd.kernel.polygons import polygons_of
-from overlayd.kernel.rows import CELLS, RINGS, WIDE, BlockRefused, Kind, Relation, Rows
+from overlayd.kernel.rows import CELLS, RINGS, WIDE, Kind, Relation, Rows
 from overlayd.kernel.shapes import column_of
 
 from . import slabs
@@ -49,15 +49,6 @@ def asked(wants: Wants = Wants.NOTHING, grid: Grid = GRID) -> Ask:
 def drawn(seed: int, count: int, reach: int) -> Map:
     source = random.Random(seed)
     return [slabs.rings(source, reach) for _ in range(count)]
-
-
-def has_outlines() -> bool:
-    try:
-        overlay(column([[SQUARE]]), column([[SQUARE]]), asked(Wants.OUTLINES))
-    except BlockRefused as refused:
-        assert refused.fault == 84
-        return False
-    return True
 
 
 SQUARE = [(0, 0), (4, 0), (4, 4), (0, 4)]
@@ -99,15 +90,13 @@ def test_gaps_are_what_features_enclose() -> None:
     holes = [[(2, 2), (4, 2), (4, 4), (2, 4)], [(6, 6), (9, 6), (9, 9), (6, 9)]]
     island = [(7, 7), (8, 7), (8, 8), (7, 8)]
     features: Map = [[frame, *holes], [island]]
-    ask = asked(Wants.OUTLINES) if has_outlines() else asked()
-    found = check(column(features), ask)
+    found = check(column(features), asked(Wants.OUTLINES))
     frame_area, own = 14 * 14, 12 * 12 - 4 - 9 + 1
     assert found.covered.exact(0) == own and found.open.exact(0) == frame_area - own
     assert found.audit.closes() and not len(found.overlaps)
-    if found.gaps is not None:
-        assert sorted(found.gaps.areas.tolist()) == [4, 8]
-        texts = {ogr.CreateGeometryFromWkb(one).ExportToWkt() for one in found.gaps.outlines.to_list()}
-        assert any("),(" in text for text in texts) and len(texts) == 2
+    assert found.gaps is not None and sorted(found.gaps.areas.tolist()) == [4, 8]
+    texts = {ogr.CreateGeometryFromWkb(one).ExportToWkt() for one in found.gaps.outlines.to_list()}
+    assert any("),(" in text for text in texts) and len(texts) == 2
 
 
 @pytest.mark.features

@@ -14,6 +14,8 @@ import time
 import unittest
 from unittest import mock
 
+import pytest
+
 from overlayd import progress
 from overlayd.commands import pairs, task
 from overlayd.maps import dask_engine, engines, tasks
@@ -292,13 +294,12 @@ class Dask(WithProcesses):
         assert [folder.came_of(number) for number in done] == [ENDS[number] for number in done]
 
 
+@pytest.mark.features
 class OverCommand(InTasks):
     """The command itself over the built program, by several engines: always the same bytes of table."""
 
     def setUp(self) -> None:
         super().setUp()
-        if Programs.features is None:
-            self.skipTest("no built overlay_features: --features names it")
         for name, shift in (("a", 0), ("b", 4)):
             self.file(f"{name}.geojson", json.dumps({"type": "FeatureCollection", "features": [
                 square(10 * x + shift, 10 * y + shift) for x in range(6) for y in range(6)]}))

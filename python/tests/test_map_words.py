@@ -9,13 +9,15 @@ from typing import Any
 from unittest import mock
 
 import numpy as np
+import pytest
 from osgeo import gdal
 
 from overlayd.commands import check, derive, pairs, pieces
 from overlayd.files import writing
-from overlayd.kernel import Ask, piecing
+from overlayd.kernel import piecing
 from .common import InFolder, Programs, outcome
 
+pytestmark = pytest.mark.features
 Position = list[float]
 
 
@@ -27,16 +29,6 @@ QUESTIONS = {"pairs": pairs, "check": check, "derive": derive, "pieces": pieces}
 
 
 class WithMaps(InFolder):
-    def setUp(self) -> None:
-        super().setUp()
-        if Programs.features is None:
-            self.skipTest("no built overlay_features: --features names it")
-
-    def need_outlines(self) -> None:
-        """Skips a test of what only a program that makes outlines has."""
-        if not Ask(str(Programs.features)).makes_outlines():
-            self.skipTest("this overlay_features makes no outlines")
-
     def map(self, name: str, rings: dict[str, Any], crs: str | None = None) -> pathlib.Path:
         """A map of polygons of one ring each, or of what else has a geometry's form."""
         features = [{"type": "Feature", "properties": {"nr": called}, "geometry": of if isinstance(of, dict) else
@@ -84,7 +76,6 @@ class Tables(WithMaps):
         assert self.asked(*words[:3], "--grid", "1/10", *words[5:])[:2] == (0, rows)
 
     def test_widths_and_fractions(self) -> None:
-        self.need_outlines()
         a = self.map("a", {"P1": square(0, 0, 10), "P3": [[30, 0], [33, 1], [30, 2], [30, 0]]})
         b = self.map("b", {"Z1": square(5, -5, 10), "Z3": [[29, 0], [30.5, 0], [30.5, 2], [29, 0]]})
         status, rows, _ = self.asked("pairs", a, b, "--factor", 10, "--exact", "--width")
@@ -119,7 +110,6 @@ class Tables(WithMaps):
             assert f"say --pieces {self.folder / name} for the shapes" in errors
 
     def test_pieces(self) -> None:
-        self.need_outlines()
         a, b = self.map("a", {"P": square(0, 0, 10)}), self.map("b", {"Z": square(5, 0, 10), "Y": square(5, 5, 10)})
         shapes = self.folder / "pieces.geojson"
         words = "pieces", a, b, "--factor", 1, "--a-id", "nr", "--b-id", "nr"
@@ -148,7 +138,6 @@ class Tables(WithMaps):
         assert (status, short(rows)) == (0, [[one, "low", "overlaps", 3.0] for one in ("left", "right")])
         assert "2 pairs overlap, and sum to 6, " in errors
         assert "audit: what is covered (73) and what is open are the whole frame, and areas less overlaps\n" in errors
-        self.need_outlines()
         gaps = self.folder / "gaps.geojson"
         status, _, errors = self.asked("check", whole, "--factor", 1, "--a-id", "nr", "--gaps", gaps)
         assert [one["properties"]["area"] for one in json.loads(gaps.read_text())["features"]] == [8.0]
@@ -163,7 +152,6 @@ class Tables(WithMaps):
         assert (status, rows[0], float(rows[1][0])) == (0, ["area", "bound"], 75.0), errors
         assert "no map woods; say one of: flood, parks, slide" in self.refused("derive", "flood - woods", *maps)
         assert "a map is named as NAME=FILE" in self.asked("derive", "flood", str(flood))[2]
-        self.need_outlines()
         out = self.folder / "d.geojson"
         assert self.asked("derive", "(flood | slide) - parks", *maps, "--out", out)[0] == 0
         assert [one["properties"] for one in json.loads(out.read_text())["features"]] == [{"area": 75.0}]
@@ -184,7 +172,6 @@ class Tables(WithMaps):
         assert "overlaps, and 8 lies in three features or more\n" in errors
 
     def test_a_wrong_answer_fails_the_audit(self) -> None:
-        self.need_outlines()
         a, b = self.map("a", {"P": square(0, 0, 10)}), self.map("b", {"Z": square(5, 0, 10)})
         right = piecing.alone
 
@@ -200,7 +187,6 @@ class Tables(WithMaps):
         assert status == 1
 
     def test_a_feature_that_stands_twenty_times(self) -> None:
-        self.need_outlines()
         ring = square(2, 2, 5)[:-1]
         turned = [ring[at % 4 :] + ring[: at % 4] for at in range(20)]
         b = self.map("b", {f"Z{at}": [*own, own[0]] for at, own in enumerate(turned)})
@@ -211,7 +197,6 @@ class Tables(WithMaps):
         assert status == 0
 
     def test_features_that_lie_deep(self) -> None:
-        self.need_outlines()
         b = self.map("b", {f"Z{at}": square(2, 2, 5 + at) for at in range(20)})
         status, rows, errors = self.asked("pieces", self.map("a", {"P": square(0, 0, 10)}), b, "--factor", 1)
         assert (status, [row[3] for row in short(rows) if row[:2] == ["1", ""]]) == (0, [36.0]), errors
@@ -436,7 +421,6 @@ class Outputs(WithMaps):
         assert not out.exists()
 
     def test_a_link_and_a_neighbour_stay(self) -> None:
-        self.need_outlines()
         real, link, gaps = self.file("real.csv", "before", 0o640), self.folder / "o.csv", self.folder / "g.geojson"
         link.symlink_to(real)
         own = [self.file(name, "mine") for name in ("o.csv.new", "real.csv.new", "g.geojson.new")]

@@ -1,7 +1,5 @@
 """What a notebook's functions give is what the command's tables have: of the maps of examples/maps."""
 
-from __future__ import annotations
-
 import csv
 from fractions import Fraction
 from typing import Any
@@ -10,22 +8,15 @@ import geopandas
 import pytest
 
 import overlayd
-from overlayd.api.asking import VARIABLE
 from overlayd.api.pieces import HOWS
 from overlayd.commands import check, derive, pairs, pieces
 
-from . import frames_made as made
-from .common import TOP, outcome
+from .common import TOP, Programs, outcome
 
-pytestmark = pytest.mark.features
+pytestmark = [pytest.mark.features, pytest.mark.usefixtures("named_program")]
 PARCELS, ZONES = (str(TOP / "examples" / "maps" / f"{name}.geojson") for name in ("parcels", "zones"))
 GRID = "0.001"
 Rows = list[dict[str, str]]
-
-
-@pytest.fixture(autouse=True)
-def program(monkeypatch: pytest.MonkeyPatch) -> None:
-    monkeypatch.setenv(VARIABLE, made.need_outlines())
 
 
 @pytest.fixture
@@ -35,7 +26,7 @@ def frames() -> list[Any]:
 
 def table(question: Any, *words: object) -> Rows:
     """What the command writes."""
-    status, output, errors = outcome(question, *words, "--grid", GRID, "--program", made.need_outlines())
+    status, output, errors = outcome(question, *words, "--grid", GRID, "--program", Programs.features)
     assert status == 0, errors
     return [*csv.DictReader(output.splitlines())]
 

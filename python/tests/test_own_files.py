@@ -8,9 +8,10 @@ import subprocess
 import sys
 from unittest import mock
 
+import pytest
+
 from overlayd.commands import pieces
 from overlayd.files import gdal_writing
-from overlayd.kernel import Ask
 from .common import OVERLAY, SECONDS, SOURCES, SQUARE, InFolder, Programs, outcome
 
 MINE = "mine\n"
@@ -95,13 +96,12 @@ class OwnFiles(InFolder):
         assert list(self.folder.glob(".*.new")) == [others]
 
 
+@pytest.mark.features
 class OwnPieces(InFolder):
     """Of `overlay pieces --pieces`: two maps of a square each, of which three pieces come."""
 
     def setUp(self) -> None:
         super().setUp()
-        if Programs.features is None or not Ask(Programs.features).makes_outlines():
-            self.skipTest("no built overlay_features that makes outlines: --features names it")
         self.first = self.file("a.wkt", SQUARE)
         self.second = self.file("b.wkt", "POLYGON ((5 5, 15 5, 15 15, 5 15, 5 5))")
         self.inputs = {"a.wkt", "b.wkt"}

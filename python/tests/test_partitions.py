@@ -10,17 +10,12 @@ from shapely import affinity
 from shapely.geometry import Polygon, box
 
 import overlayd
-from overlayd.api.asking import VARIABLE
 
 from . import frames_made as made
 
 dask = pytest.importorskip("dask", reason="python3-dask is not installed")
-pytestmark = [pytest.mark.features, pytest.mark.filterwarnings("ignore:.keep_geom_type=True:UserWarning")]
-
-
-@pytest.fixture(autouse=True)
-def program(monkeypatch: pytest.MonkeyPatch) -> None:
-    monkeypatch.setenv(VARIABLE, made.need_outlines())
+pytestmark = [pytest.mark.features, pytest.mark.usefixtures("named_program"),
+              pytest.mark.filterwarnings("ignore:.keep_geom_type=True:UserWarning")]
 
 
 def bricks(seed: int, angle: float) -> Any:

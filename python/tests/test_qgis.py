@@ -6,8 +6,7 @@ import sys
 
 import pytest
 
-from . import frames_made as made
-from .common import HAS_QGIS, TOP
+from .common import HAS_QGIS, TOP, Programs
 
 SECONDS = 900
 
@@ -15,7 +14,7 @@ SECONDS = 900
 @pytest.mark.features
 @pytest.mark.skipif(not HAS_QGIS, reason="no QGIS: apt-get install qgis python3-qgis")
 def test_the_tests_of_the_plugin_pass() -> None:
-    environment = {**os.environ, "OVERLAY_FEATURES": made.need_outlines(), "QT_QPA_PLATFORM": "offscreen"}
+    environment = {**os.environ, "OVERLAY_FEATURES": str(Programs.features), "QT_QPA_PLATFORM": "offscreen"}
     command = [sys.executable, "-m", "pytest", "-q", "-p", "no:cacheprovider", "-c", "/dev/null", "--rootdir",
                str(TOP / "qgis" / "tests"), str(TOP / "qgis" / "tests")]
     done = subprocess.run(command, env=environment, capture_output=True, text=True, timeout=SECONDS, check=False)

@@ -11,7 +11,6 @@ import pytest
 
 from overlayd.commands import import_ as to_script, which
 from overlayd.files import gdal_files
-from overlayd.kernel import Ask
 from overlayd.program import Server
 from overlayd.store.world import World
 from . import testing
@@ -83,9 +82,8 @@ class OnePolygon(FrontCase):
         for file in (source, self.package(source)):
             assert "((6131 0, 7001 0, 7001 900, 6131 900, 6131 0))" in self.script(file)[0], file.name
 
+    @pytest.mark.features
     def test_by_questions_over_maps(self) -> None:
-        if Programs.features is None or not Ask(Programs.features).makes_outlines():
-            self.skipTest("no built overlay_features that makes outlines: --features names it")
         for name, corners in GIVEN.items():
             text = self.file(f"{name}.geojson", feature(corners))
             words = [*OVERLAY, "pieces", str(text), str(self.package(text)),
