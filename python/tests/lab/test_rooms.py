@@ -25,7 +25,7 @@ def tree(tmp_path: pathlib.Path) -> pathlib.Path:
 
 def test_the_page(tree: pathlib.Path) -> None:
     assert rooms.pages(tree, ["one"]) == FILE
-    assert rooms.page(tree) == f"{rooms.HEAD}\n{FILE}"
+    assert rooms.pages(tree, []) == f"{rooms.HEAD}\n{FILE}"
     for name in ("two", "one_tests"):
         with pytest.raises(SystemExit, match=f"{name} is no crate"):
             rooms.pages(tree, ["one", name])
@@ -34,7 +34,7 @@ def test_the_page(tree: pathlib.Path) -> None:
 def test_a_file_says_what_it_is(tree: pathlib.Path) -> None:
     (tree / "crates/one/src/bare.rt").write_text("fn said_by_nobody() {}\n")
     with pytest.raises(SystemExit, match="bare.rt has no sentence"):
-        rooms.page(tree)
+        rooms.pages(tree, [])
 
 
 def test_drops(tree: pathlib.Path) -> None:
@@ -58,7 +58,7 @@ def test_stores(tree: pathlib.Path) -> None:
         (tree / "crates" / crate / "src").mkdir(parents=True, exist_ok=True)
         (tree / "crates" / crate / "src/bare.rt").write_text(waiting)
         (tree / "crates" / crate / "src/opens.rt").write_text("//! Opens.\nuse root_store::shut::Key as Lock;\n")
-    assert rooms.faults_of_stores(tree) == ["crates/one/src/opens.rt:2 opens a disk that is shut",
+    assert rooms.faults_of_disks(tree) == ["crates/one/src/opens.rt:2 opens a disk that is shut",
                                             "crates/kept_store/src/bare.rt:2 may not return, and has a store open",
                                             "crates/kept_store/src/bare.rt:4 may not return, and has a store open",
                                             "crates/kept_store/src/opens.rt:2 opens a disk that is shut"]

@@ -10,10 +10,15 @@ import collections
 import dataclasses
 import pathlib
 import re
+from collections.abc import Iterator
 
-HEAD = re.compile(r"^(?P<indent> *)(?:pub(?:\([^)]*\))? )?(?:const )?(?:unsafe )?fn (?P<name>\w+)")
-IMPL = re.compile(r"^(?:unsafe )?impl(?:<(?:[^<>]|<[^<>]*>)*>)? (?P<made>.*?)(?: where.*)?(?: \{)?$")
-TRAIT = re.compile(r"^(?:pub(?:\([^)]*\))? )?trait (?P<name>\w+)")
+# A function, or a constant, whose name begins with a capital, with its value if that stands in the line.
+ITEM = re.compile(
+    r"^(?P<indent> *)(?P<public>pub )?(?:pub\([^)]*\) )?"
+    r"(?:(?:const )?(?:unsafe )?fn (?P<name>\w+)|const (?P<constant>[A-Z]\w*):(?: [^=]+ = (?P<value>[^;]+);$)?)")
+# What functions stand in: a trait, or an `impl`.
+BLOCK = re.compile(r"^(?:(?:pub(?:\([^)]*\))? )?trait (?P<trait>\w+).*?"
+                   r"|(?:unsafe )?impl(?:<(?:[^<>]|<[^<>]*>)*>)? (?P<made>.*?))(?: where.*)?(?: \{)?$")
 TYPE = re.compile(r"^(?:pub(?:\([^)]*\))? )?(?:struct|enum|union) (?P<name>\w+)", re.M)
 
 
@@ -64,15 +69,22 @@ def of_trait(trait: str, held: str) -> str:
     return name + "".join(one for one in given if not is_parameter(one) and given != [held])
 
 
-def owner(line: str, path: str, homes: dict[str, list[str]]) -> str | None:
-    """The path of the type or trait whose functions follow a line, if it begins a block of some."""
-    trait = TRAIT.match(line)
-    if trait:
-        return within(module(path), trait["name"])
-    head = IMPL.match(line)
-    if not head:
-        return None
-    left, is_trait, right = head["made"].partition(" for ")
+def items(lines: list[str]) -> Iterator[tuple[int, re.Match[str], re.Match[str] | None]]:
+    """The functions and constants of a file: the line of each, its head, and that of the block that it stands in."""
+    block: re.Match[str] | None = None
+    for at, line in enumerate(lines):
+        if line and line[0] not in " }{)#/" and not line.startswith("where"):
+            block = BLOCK.match(line)
+        head = ITEM.match(line)
+        if head and len(head["indent"]) in (0, 4):
+            yield at, head, block if head["indent"] else None
+
+
+def owner(block: re.Match[str], path: str, homes: dict[str, list[str]]) -> str:
+    """The path of the type or trait whose functions a block has."""
+    if block["trait"]:
+        return within(module(path), block["trait"])
+    left, is_trait, right = block["made"].partition(" for ")
     if is_trait:
         return within(module(path), bare(right) + of_trait(left, bare(right)))
     name, *given = parts_of(left)
@@ -98,19 +110,11 @@ def ends(lines: list[str], first: int, indent: str) -> tuple[int, int]:
 
 def of_source(source: str, path: str, homes: dict[str, list[str]]) -> list[Function]:
     """The functions of a file, in their order; `homes` has the modules of each type of the crate."""
-    found: list[Function] = []
-    holder: str | None = None
-    is_own = True
     lines = source.split("\n")
-    for at, line in enumerate(lines):
-        if line and line[0] not in " }{)#/" and not line.startswith("where"):
-            holder = owner(line, path, homes)
-            is_own = not TRAIT.match(line) and " Drop for " not in line
-        head = HEAD.match(line)
-        if head and len(head["indent"]) in (0, 4):
-            before = holder if head["indent"] and holder else module(path)
-            found.append(Function(within(before, head["name"]), path, at, *ends(lines, at, head["indent"]), is_own))
-    return found
+    return [
+        Function(within(owner(block, path, homes) if block else module(path), head["name"]), path, at,
+                 *ends(lines, at, head["indent"]), not block or not (block["trait"] or " Drop for " in block[0]))
+        for at, head, block in items(lines) if head["name"]]
 
 
 def homes_of(texts: dict[str, str]) -> dict[str, list[str]]:

@@ -13,13 +13,15 @@ those without a sentence: of a type as `Type::name`, of a trait's `impl` as `Typ
 those of such an `impl`, are bold. Crates of tests are left out.
 """
 
-import argparse
+import itertools
 import pathlib
 import re
 import sys
 from typing import NamedTuple
 
 from overlayd_lab import TOP
+from overlayd_lab.counting import Words
+from overlayd_lab.gate import functions
 from overlayd_lab.gate.functions import bare
 
 HEAD = """# Rooms
@@ -34,16 +36,6 @@ end of a file stand those without a sentence. Types and crates of tests are left
 number, crates/fault_texts/README.md says.
 """
 MARK = "\n### "  # before each file of the page
-# A function, or a constant, whose name begins with a capital, with its value if that stands in the line.
-ITEM = re.compile(
-    r"^(?P<indent> *)(?P<public>pub )?(?:pub\(\w+\) )?"
-    r"(?:(?:const )?(?:unsafe )?fn (?P<name>\w+)|const (?P<constant>[A-Z]\w*):(?: [^=]+ = (?P<value>[^;]+);$)?)"
-)
-OWNER = re.compile(
-    r"^(?:impl(?:<(?:[^<>]|<[^<>]*>)*>)? (?P<made>.*?)|(?:pub )?trait (?P<trait>\w+).*?)(?: where.*)?(?: \{)?$"
-)
-
-
 # Types whose values end by code of their own. None of them has a disk: a `drop` has no contract, and is run wherever a
 # value ends, so one of a type with a disk could write to it after all was reported durable. Below programs no body can
 # let a disk go, as long as no type parameter of a disk has the bound `Drop`: `serve` and all below hand it on.
@@ -77,14 +69,11 @@ def short(value: str) -> str:
     return value if len(value) <= 30 and "{" not in value else ""
 
 
-def owner_of(line: str) -> str | None:
-    """The type whose functions follow a line, if it begins a block of some."""
-    head = OWNER.match(line)
-    if not head:
-        return None
-    if head["trait"]:
-        return head["trait"]
-    trait, made, of = head["made"].partition(" for ")
+def owner_of(block: re.Match[str] | None) -> str:
+    """The type whose functions a block has, and the trait that it has them by."""
+    if not block or block["trait"]:
+        return block["trait"] if block else ""
+    trait, made, of = block["made"].partition(" for ")
     return f"{bare(of)} as {bare(trait)}" if made else bare(trait)
 
 
@@ -104,40 +93,25 @@ class Item(NamedTuple):
 
 
 def comment_of(lines: list[str]) -> str:
-    """The first sentence of what stands above a function or constant: of its `///` lines, if it has any."""
-    documents = [line for line in lines if line.startswith("///")]
-    return first_sentence("\n".join(line.lstrip("/").strip() for line in documents or lines))
+    """The first sentence of what stands at the end of some lines: of its `///` lines, if it has any."""
+    above = list(itertools.takewhile(lambda line: line.startswith(("//", "#[")), map(str.strip, reversed(lines))))
+    said = [line for line in reversed(above) if line.startswith("//")]
+    documents = [line for line in said if line.startswith("///")]
+    return first_sentence("\n".join(line.lstrip("/").strip() for line in documents or said))
 
 
 def items(source: str) -> list[Item]:
     """The functions and constants of a file."""
-    found: list[Item] = []
-    owner, comment = "", list[str]()
-    for line in source.splitlines():
-        if line and not line.startswith((" ", "}", "{", "where", "/", "#")):
-            owner = owner_of(line) or ""
-        begun = ITEM.match(line)
-        if begun and len(begun["indent"]) in (0, 4):
-            bare_name = begun["name"] or begun["constant"]
-            name = f"{owner}::{bare_name}" if owner and begun["indent"] else bare_name
-            value = short(begun["value"] or "")
-            found.append(Item(name, bool(begun["public"]) or " as " in owner, comment_of(comment), value))
-        said = line.strip()
-        if said.startswith("//"):
-            comment.append(said)
-        elif not said.startswith("#["):
-            comment = []
-    return found
+    lines = source.splitlines()
+    return [Item("::".join(filter(None, (owner_of(block), head["name"] or head["constant"]))),
+                 bool(head["public"]) or " as " in owner_of(block), comment_of(lines[:at]), short(head["value"] or ""))
+            for at, head, block in functions.items(lines)]
 
 
 def sentence(source: str) -> str:
     """What the file says at its head, in one line."""
-    lines: list[str] = []
-    for line in source.splitlines():
-        if not line.startswith("//!"):
-            break
-        lines.append(line[3:].strip())
-    return " ".join(lines).strip()
+    head = itertools.takewhile(lambda line: line.startswith("//!"), source.splitlines())
+    return " ".join(line[3:].strip() for line in head).strip()
 
 
 def part(path: pathlib.Path, top: pathlib.Path) -> list[str]:
@@ -160,14 +134,16 @@ def crates(top: pathlib.Path) -> list[str]:
     return [name for name in names if not name.endswith("_tests")]
 
 
+def files(top: pathlib.Path, crate: str) -> list[pathlib.Path]:
+    """The files of code of a crate, by name."""
+    return sorted((top / "crates" / crate / "src").rglob("*.rt"))
+
+
 def drops(top: pathlib.Path) -> set[str]:
     """The types that have a `drop` of their own, each with its crate."""
-    return {
-        f"{crate}::{name.partition(' as ')[0]}"
-        for crate in crates(top) if crate != MACHINES
-        for path in (top / "crates" / crate / "src").rglob("*.rt")
-        for name, *_ in items(path.read_text()) if name.endswith(" as Drop::drop")
-    }
+    return {f"{crate}::{name.partition(' as ')[0]}"
+            for crate in crates(top) if crate != MACHINES for path in files(top, crate)
+            for name, *_ in items(path.read_text()) if name.endswith(" as Drop::drop")}
 
 
 def faults_of_drops(made: set[str], known: tuple[str, ...]) -> list[str]:
@@ -178,20 +154,11 @@ def faults_of_drops(made: set[str], known: tuple[str, ...]) -> list[str]:
 
 
 def faults_of_disks(top: pathlib.Path) -> list[str]:
-    """The lines that ask of a type parameter of a disk that its values may be let go."""
-    return [
-        f"{path.relative_to(top)}:{number} asks that a disk may be let go"
-        for crate in crates(top) if crate != MACHINES
-        for path in sorted((top / "crates" / crate / "src").rglob("*.rt"))
-        for number, line in enumerate(path.read_text().splitlines(), 1) if LETS_GO.search(line)
-    ]
-
-
-def faults_of_stores(top: pathlib.Path) -> list[str]:
-    """The lines by which a call that has a store open may not return, and those that open a disk which was shut."""
+    """The lines that ask that a disk may be let go, those by which a call that has a store open may not return, and
+    those that open a disk which was shut."""
     found: list[str] = []
     for crate in crates(top):
-        for path in sorted((top / "crates" / crate / "src").rglob("*.rt")):
+        for path in files(top, crate):
             place = path.relative_to(top).as_posix()
             for number, line in enumerate(path.read_text().splitlines(), 1):
                 code = line.partition("//")[0]
@@ -199,39 +166,35 @@ def faults_of_stores(top: pathlib.Path) -> list[str]:
                     found.append(f"{place}:{number} may not return, and has a store open")
                 if crate != MACHINES and place != LOCK and OPENER.search(code):
                     found.append(f"{place}:{number} opens a disk that is shut")
+                if crate != MACHINES and LETS_GO.search(line):
+                    found.append(f"{place}:{number} asks that a disk may be let go")
     return found
 
 
 def of_crate(top: pathlib.Path, crate: str) -> str:
     """The part of a crate."""
-    home = top / "crates" / crate / "src"
-    return "\n".join([f"## {crate}", "", *(line for path in sorted(home.rglob("*.rt")) for line in part(path, top))])
-
-
-def page(top: pathlib.Path) -> str:
-    """The whole page."""
-    return "\n".join([HEAD, *(of_crate(top, crate) for crate in crates(top))])
+    return "\n".join([f"## {crate}", "", *(line for path in files(top, crate) for line in part(path, top))])
 
 
 def pages(top: pathlib.Path, names: list[str]) -> str:
-    """The parts of some crates."""
+    """The parts of some crates; of none the whole page."""
     strange = [name for name in names if name not in crates(top)]
     if strange:
         raise SystemExit(f"rooms: {strange[0]} is no crate but for tests")
-    return "\n".join(of_crate(top, name) for name in names)
+    return "\n".join([*([] if names else [HEAD]), *(of_crate(top, name) for name in names or crates(top))])
 
 
 def main() -> int:
     """Prints the page or parts of it, or checks what it says."""
-    parser = argparse.ArgumentParser(description=__doc__, formatter_class=argparse.RawDescriptionHelpFormatter)
+    parser = Words(__doc__)
     parser.add_argument("names", nargs="*", metavar="NAME", help="a crate")
     parser.add_argument("--check", action="store_true", help="only say whether all of it can be told, and is right")
     words = parser.parse_args()
-    text = pages(TOP, words.names) if words.names else page(TOP)
+    text = pages(TOP, words.names)
     if not words.check:
         print(text, end="")
         return 0
-    faults = [*faults_of_drops(drops(TOP), DROPS), *faults_of_disks(TOP), *faults_of_stores(TOP)]
+    faults = [*faults_of_drops(drops(TOP), DROPS), *faults_of_disks(TOP)]
     print("\n".join(faults) or f"{text.count(MARK) + len(DROPS)} passed, 0 failed")
     return 1 if faults else 0
 
