@@ -59,9 +59,9 @@ def test_stores(tree: pathlib.Path) -> None:
         (tree / "crates" / crate / "src/bare.rt").write_text(waiting)
         (tree / "crates" / crate / "src/opens.rt").write_text("//! Opens.\nuse root_store::shut::Key as Lock;\n")
     assert rooms.faults_of_disks(tree) == ["crates/one/src/opens.rt:2 opens a disk that is shut",
-                                            "crates/kept_store/src/bare.rt:2 may not return, and has a store open",
-                                            "crates/kept_store/src/bare.rt:4 may not return, and has a store open",
-                                            "crates/kept_store/src/opens.rt:2 opens a disk that is shut"]
+                                           "crates/kept_store/src/bare.rt:2 may not return, and has a store open",
+                                           "crates/kept_store/src/bare.rt:4 may not return, and has a store open",
+                                           "crates/kept_store/src/opens.rt:2 opens a disk that is shut"]
 
 
 def test_each_file_of_python_says_what_it_is() -> None:

@@ -1,12 +1,17 @@
-"""What trials do by themselves, without a program: what they draw and judge, and what of their programs is read."""
+"""What trials judge as right, without a program, and what the library does by which calls on a store fail."""
 
+import os
+import pathlib
+import subprocess
+import sys
 from typing import Any
 
 import pytest
 
-from overlayd_lab import read_programs, unproved
-from overlayd_lab.reference import judging, model, read_store
-from overlayd_lab.trials import damages, live_stress, old_files
+from overlayd_lab.reference import judging, model
+from overlayd_lab.trials import live_stress, refused_runs
+from overlayd_lab.trials.refused_runs import OTHER, SQUARE, Outcome, Scenario
+from overlayd_lab.trials.refusing import Allows, device, judge_output, many_growths, one_growth
 
 # ---- live_stress.py
 
@@ -73,26 +78,99 @@ def test_a_live_run_is_judged(events: list[tuple[Any, ...]], left: tuple[int, li
     assert is_right(events, left) == wanted
 
 
-# ---- damages.py: the files of format 1, by the reader that stands by itself
+# ---- growths.py and faults.py
+
+TOLD = Scenario("replies", [[f"PUT A {SQUARE}", "GRID A 2 2 1 1 1", "SYNC", f"PUT B {OTHER}", "SYNC"]], 1)
+REPLIES = ["ok 1", "grid 1 1\n#", "durable 1", "ok 2", "durable 2"]
+OUT = "error 40 out of memory"
+DEVICE = "error 30 device"
+WRITE = "error 49 write"
+# No reply: where something was refused before a session read a line, or behind.
+EARLY, LATE = "early", "late"
+CUT = {3: None, 4: None}
+CLOSING = "error 43 closing"
+# What may be reported by a run of these lines, by what was refused: the replies that differ or lack, by their places,
+# whether something was refused, what is on standard error (None: nothing, with status 1), and whether that is right.
+ALLOWED: dict[Allows, list[tuple[Any, int, str | None, bool]]] = {
+    one_growth: [
+        ({}, 0, "", True), ({}, 1, "", True), ({1: OUT}, 1, "", True), ({1: OUT}, 0, "", False),
+        ({1: DEVICE}, 1, "", False), ({1: "grid 1 1\n."}, 1, "", False), ({2: OUT}, 1, "", True),
+        ({2: DEVICE}, 1, "", False), ({2: OUT, 4: OUT}, 1, "", False), ({1: OUT, 2: OUT}, 1, "", False),
+        ({1: OUT, 4: OUT}, 1, "", False), (EARLY, 1, OUT, True), (EARLY, 1, DEVICE, False), (EARLY, 0, OUT, False),
+        (LATE, 1, OUT, False), (LATE, 1, WRITE, True), ({}, 1, WRITE, False), (CUT, 1, WRITE, True),
+        (CUT, 1, OUT, False), (CUT, 1, "", False), (CUT, 1, None, False), (CUT | {1: OUT}, 1, WRITE, False),
+        ({4: OUT}, 1, None, True), ({}, 1, None, True), ({}, 0, None, False), ({1: OUT}, 1, None, False),
+        ({1: OUT}, 1, OUT, False), ({3: CLOSING, 4: CLOSING}, 1, OUT, False),
+        ({3: CLOSING, 4: CLOSING, EARLY: True}, 1, OUT, False),
+    ],
+    many_growths: [({1: OUT, 2: OUT, 4: OUT}, 2, "", True), ({1: OUT, 2: OUT, 4: OUT}, 0, "", False),
+                   ({2: DEVICE}, 2, "", False), ({3: CLOSING, 4: CLOSING, EARLY: True}, 2, OUT, False)],
+    device: [
+        ({}, 0, "", True), ({}, 1, "", True), ({4: DEVICE}, 1, "", True), ({2: DEVICE, 4: DEVICE}, 1, DEVICE, True),
+        ({4: DEVICE}, 1, None, False), ({4: DEVICE}, 0, "", False), ({2: DEVICE}, 1, "", False),
+        ({1: DEVICE}, 1, "", False), ({1: OUT}, 1, "", False), ({4: OUT}, 1, "", False), ({4: None}, 1, DEVICE, False),
+        (CUT, 1, DEVICE, False), (CUT | {1: None, 2: None}, 1, DEVICE, False), (EARLY, 1, DEVICE, True),
+        (EARLY, 1, OUT, False), (EARLY, 0, DEVICE, False), (LATE, 1, DEVICE, False),
+    ],
+}
 
 
-def test_files_of_format_1() -> None:
-    one, two = (f"MULTIPOLYGON ((({n} {n}, {n + 10} {n}, {n + 10} {n + 10}, {n} {n + 10}, {n} {n})))" for n in (0, 5))
-    six, released = old_files.in_six_blocks(), old_files.released()
-    assert damages.read_by_itself(six) == ("version 2", f"layers 2;A {one};I = A;")
-    assert damages.read_by_itself(released) == ("version 3", f"layers 3;A {one};B {two};I = A & B;")
-    assert len(old_files.tiles_of(released)) == read_store.OLD_COLUMNS
-    assert len(damages.offsets_of(six)) == 2 * damages.SLOT + 61 + 44 + 1 + 142
+def is_allowed(allows: Allows, changed: Any, refused: int, fault: str | None) -> bool:
+    """Whether a run of the lines above is taken as right."""
+    replies = [] if changed in (EARLY, LATE) else [changed.get(place, reply) for place, reply in enumerate(REPLIES)]
+    output = "".join(reply + "\n" for reply in replies if reply is not None)
+    outcome = Outcome(1, int(fault != ""), output, fault + "\n" if fault else "", None, (9, refused), EARLY in changed)
+    try:
+        judge_output(TOLD, outcome, allows)
+    except judging.Wrong:
+        return False
+    return True
 
 
-# ---- read_programs.py
+@pytest.mark.parametrize("allows, changed, refused, fault, wanted",
+                         [(allows, *case) for allows, cases in ALLOWED.items() for case in cases])
+def test_a_run_of_one_script(allows: Allows, changed: Any, refused: int, fault: str | None, wanted: bool) -> None:
+    assert is_allowed(allows, changed, refused, fault) == wanted
 
 
-def test_programs_stand_side_by_side() -> None:
-    main = read_programs.placed("a_b", "main", "//! x\n#![tactic(auto)]\n\nfn main(rt: R) {}\n")
-    assert main == ("a_b.rt", "//! x\n\n#[test]\nfn main(rt: R) {}\n")
-    assert read_programs.placed("a_b", "one", "use crate::two::f;\n") == ("a_b/one.rt", "use crate::a_b::two::f;\n")
-    programs = read_programs.programs()
-    assert all(unproved.crates_of(folder) for folder in programs)
-    assert all(file.exists() for folder in programs for file in unproved.files_of(folder).values())
-    assert len({"_".join(folder.parts[-2:]) for folder in programs}) == len(programs) > 0
+# ---- the library by which calls fail
+
+# A writer that syncs its folder, goes on after each call that fails, and prints those.
+CALLS = """
+import os, sys
+def told(call, *words):
+    try:
+        return call(*words) or True
+    except OSError:
+        print(call.__name__)
+file = told(os.open, sys.argv[1], os.O_RDWR | os.O_CREAT)
+folder = os.open(os.path.dirname(sys.argv[1]), os.O_RDONLY)
+if file and told(os.fsync, folder):
+    told(os.pwrite, file, b"four", 0)
+    told(os.fdatasync, file)
+    told(os.pwrite, file, b"less", 3)
+    told(os.fdatasync, file)
+"""
+# The number of the call that fails and how, what fails for the writer, and what it leaves.
+LEFT = [
+    (0, 0, "", b"fouless"), (1, 0, "open", None), (3, 0, "fsync", None), (3, 2, "", b"fouless"),
+    (4, 0, "pwrite", bytes(3) + b"less"), (4, 1, "pwrite", b"fo" + bytes(1) + b"less"),
+    (4, 2, "", b"fo" + bytes(1) + b"less"), (5, 0, "fdatasync", bytes(3) + b"less"),
+    (5, 1, "fdatasync", b"fo" + bytes(1) + b"less"), (5, 2, "", b"fouless"), (6, 0, "pwrite", b"four"),
+    (6, 1, "pwrite", b"foule"), (7, 0, "fdatasync", b"four"), (7, 1, "fdatasync", b"foule" + bytes(2)),
+    (7, 2, "", b"fouless"), (7, 3, "fdatasync", b"four"), (8, 0, "", b"fouless"),
+]
+
+
+@pytest.mark.parametrize("first, kind, fails, leaves", LEFT)
+def test_calls_fail(tmp_path: pathlib.Path, first: int, kind: int, fails: str, leaves: bytes | None) -> None:
+    """The call of the writer above that is to fail fails, and what was not synced is lost."""
+    folder = tmp_path / "own"
+    folder.mkdir()
+    store = folder / "file"
+    given: dict[str, Any] = {
+        "LD_PRELOAD": refused_runs.compiled("faults", tmp_path), "FAIL_STORE": store, "FAIL_FOLDER": folder,
+        "FAIL_COUNTS": folder / "counts", "FAIL_FIRST": first, "FAIL_KIND": kind}
+    environment = {**os.environ, **{name: str(value) for name, value in given.items()}}
+    done = subprocess.run([sys.executable, "-c", CALLS, store], env=environment, stdout=subprocess.PIPE, check=True)
+    assert (done.stdout.decode().strip(), store.read_bytes() if store.exists() else None) == (fails, leaves)
