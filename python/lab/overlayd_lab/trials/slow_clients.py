@@ -13,20 +13,41 @@ import contextlib
 import http.client
 import pathlib
 import socket
+import subprocess
 import sys
 import tempfile
 import time
 import urllib.parse
+from collections.abc import Iterator
 
-from overlayd_lab import web_front
+from overlayd.program import Server
+
+from overlayd_lab import TOP
 from overlayd_lab.counting import Tries, Words
 
+PROGRAM = TOP / "crates/overlay_live/out/overlay_live"
 LAST, LINES, PAUSE = 80.0, 4.0, 0.5
 """How many seconds the slow ones are looked at, and how many pass between two lines of theirs, and two questions."""
 ANSWER = 5.0
 HEAD = b"GET /conformance HTTP/1.1\r\nHost: 127.0.0.1\r\n"
 BODY = (b"PUT /collections/x HTTP/1.1\r\nHost: 127.0.0.1\r\nContent-Type: application/json\r\n"
         b"Content-Length: 900000\r\n\r\n{")
+
+
+@contextlib.contextmanager
+def front(program: str, python: str) -> Iterator[str]:
+    """The address of a front over a store of one square, which has to end with 0."""
+    with tempfile.TemporaryDirectory() as folder:
+        store = pathlib.Path(folder, "map.db")
+        with Server(store, create=True, program=program) as server:
+            server.sessions[0].batch(["PUT A POLYGON ((0 0, 10 0, 10 10, 0 10, 0 0))", "DEFINE both = A"])
+        words = [python, TOP / "overlay", "serve", "--store", store, "--writable", "--port", "0", "--program", program]
+        with subprocess.Popen(words, stdout=subprocess.PIPE, text=True) as run:
+            assert run.stdout
+            yield run.stdout.readline().strip()
+            run.terminate()
+        if run.returncode:
+            sys.exit(f"the front ended with status {run.returncode}")
 
 
 class Slow:
@@ -59,7 +80,7 @@ def waited(where: tuple[str, int]) -> float | None:
     begin = time.monotonic()
     link = http.client.HTTPConnection(*where, timeout=ANSWER)
     try:
-        link.request("GET", "/collections/both/locate?x=-19&y=65")
+        link.request("GET", "/collections/both/locate?x=1&y=1")
         return time.monotonic() - begin if link.getresponse().status == 200 else None
     except OSError:
         return None
@@ -89,16 +110,13 @@ def tried(tries: Tries, address: str, what: str, count: int, begin: bytes, more:
 
 def main() -> int:
     parser = Words(__doc__)
-    parser.add_argument("--program", default=str(web_front.PROGRAM), metavar="PATH")
-    parser.add_argument("--python", default=web_front.DEBIAN_PYTHON, metavar="PATH",
-                        help="the Python that runs the front")
+    parser.add_argument("--program", default=str(PROGRAM), metavar="PATH")
+    parser.add_argument("--python", default=sys.executable, metavar="PATH", help="the Python that runs the front")
     parser.add_argument("--clients", type=int, default=900, metavar="N", help="how many are slow (default 900)")
     words, tries = parser.parse_args(), Tries()
-    with tempfile.TemporaryDirectory() as folder:
-        store = web_front.iceland(pathlib.Path(folder), words.program)
-        with web_front.front("--store", store, "--writable", program=words.program, python=words.python) as address:
-            tried(tries, address, "heads", words.clients, HEAD, b"X-A: b\r\n")
-            tried(tries, address, "bodies", words.clients, BODY, b"        ")
+    with front(words.program, words.python) as address:
+        tried(tries, address, "heads", words.clients, HEAD, b"X-A: b\r\n")
+        tried(tries, address, "bodies", words.clients, BODY, b"        ")
     return tries.end()
 
 
