@@ -402,22 +402,6 @@ class Processes(ClientCase):
                 one = server.sessions[0]
                 assert (one.sync(), [layer.name for layer in one.layers()]) == (2, ["A", "B"])
 
-    def test_several_read_one_store_at_once(self) -> None:
-        with testing.folder() as folder:
-            store = folder / "map.db"
-            with running(store=store, create=True) as server:
-                server.sessions[0].batch([f"PUT A {SQUARE}", "DEFINE I = A"])
-            before = store.read_bytes()
-            with running(store=store, read_only=True) as first, running(store=store, read_only=True) as second:
-                for server in (first, second):
-                    one = server.sessions[0]
-                    assert (one.locate("I", 1, 1), len(one.boundary("I").pieces)) == ("in", 4)
-                first.sessions[0].drop("I")
-                self.refused(30, first.sessions[0].sync)
-                assert second.sessions[0].locate("I", 1, 1) == "in"
-                self.refused(30, lambda: running(store=store))
-            assert store.read_bytes() == before
-
     def test_a_start_that_fails_tells_the_programs_own_fault(self) -> None:
         with testing.folder() as folder:
             fault = self.refused(30, lambda: running(store=folder / "none.db"))

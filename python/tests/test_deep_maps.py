@@ -1,6 +1,5 @@
 """Maps of which more features lie over one place than an expression has layers, beside unions by shapely."""
 
-import itertools
 import random
 
 import numpy as np
@@ -10,7 +9,7 @@ from shapely.geometry.base import BaseGeometry
 from shapely.ops import polygonize, unary_union
 
 from overlayd.geometry.flat_arrays import Numbers
-from overlayd.kernel import Wants, check, derive
+from overlayd.kernel import check, derive
 from overlayd.kernel.colouring import TooManyColours
 from overlayd.kernel.columns import Column, of_bytes
 from overlayd.kernel.laying import lay
@@ -54,15 +53,6 @@ def test_two_deep_maps_and_a_plain_one() -> None:
     assert near(found.area.exact(0), (first - second) | c[0])
 
 
-def test_check_of_many_over_one_place_closes_and_has_all_overlaps_and_the_gap() -> None:
-    ring = box(3000, 3000, 3010, 3010) - box(3002, 3002, 3005, 3006)
-    shapes = [*quadrilaterals(8, 60), ring]
-    found = check(column_of(shapes), asked(Wants.OUTLINES))
-    assert len(found.overlaps) == 60 * 59 // 2 and not len(found.unanswered)
-    assert near(found.covered.exact(0), unary_union(shapes)) and found.audit.closes()
-    assert found.gaps is not None and found.gaps.areas.tolist() == [12.0]
-
-
 @pytest.mark.parametrize("count", (30, 100))
 def test_one_parcel_many_times(count: int) -> None:
     shapes = [box(0, 0, 10, 20)] * count + [box(5, 5, 30, 30)]
@@ -101,8 +91,3 @@ def covers_all(shapes: list[BaseGeometry], feature: Numbers, layer: Numbers) -> 
     holds = np.array([[shape.contains(point) for point in points] for shape in shapes])
     odd = np.array([(holds[feature[layer == number]].sum(axis=0) % 2) for number in np.unique(layer)])
     return bool((odd.any(axis=0) == holds.any(axis=0)).all())
-
-
-def test_pairs_of_this_file_overlap() -> None:
-    shapes = quadrilaterals(4, 60)
-    assert all(one.intersects(other) for one, other in itertools.combinations(shapes, 2))

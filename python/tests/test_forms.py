@@ -1,13 +1,11 @@
 """Tests of maps of other forms than GeoJSON and Well-Known Text, which GDAL reads and writes."""
 
-import contextlib
 import gzip
 import json
 import os
 import pathlib
 import re
 import sqlite3
-import subprocess
 import unittest.mock
 from fractions import Fraction
 
@@ -15,7 +13,7 @@ from overlayd.commands import export as to_geojson, import_ as to_script
 from overlayd.commands import map_words
 from overlayd.files import coordinate_systems, gdal_files, map_reading, text_columns, writing
 from overlayd.files.arrow_reading import ReadingFault
-from .common import OVERLAY, SECONDS, SQUARE, InFolder, on_file, outcome
+from .common import SQUARE, InFolder, on_file, outcome
 from .test_maps import COUNTIES, area_of_script
 
 FEATURE = '{{"type": "Feature", "properties": {{"n": "{}"}}, "geometry": {{"type": "Polygon", "coordinates": [{}]}}}}'
@@ -63,14 +61,6 @@ class FilesOfGdal(WithGdal):
         assert outcome(to_script, store, "--factor", 2, "--name", "a")[:2] == (0, wanted)
         assert outcome(to_script, "")[0] == 2
 
-    def test_coordinates_are_named(self) -> None:
-        plan = self.file("plan.geojson", f'{{"type": "FeatureCollection", "crs": {{"type": "name", "properties": '
-                                         f'{{"name": "urn:ogc:def:crs:EPSG::25832"}}}}, "features": [{FIRST}]}}')
-        for name in ("a.gpkg", "a.shp", "a.fgb"):
-            file, output = self.made(name, str(plan)), self.folder / f"{name}.txt"
-            assert outcome(to_script, file, "--fit", "--output", output)[0] == 0
-            assert json.loads(output.with_suffix(".scale.json").read_text())["crs"] == "EPSG:25832"
-
     def test_nothing_is_written_beside_a_map(self) -> None:
         plan = str(self.file("plan.geojson", FIRST))
         for crs in ("EPSG:25832", "EPSG:4326"):
@@ -80,13 +70,6 @@ class FilesOfGdal(WithGdal):
             assert outcome(to_script, file, "--factor", 2)[0] == 0
             assert sorted(self.folder.iterdir()) == before
             file.unlink()
-
-    def test_no_program_of_gdal_is_needed(self) -> None:
-        file = self.made("a.gpkg", str(self.file("plan.geojson", FIRST)))
-        call = [*OVERLAY, "import", str(file), "--factor", "2"]
-        done = subprocess.run(call, env={"PATH": str(self.folder)}, capture_output=True, text=True, check=False,
-                              timeout=SECONDS)
-        assert (done.returncode, done.stdout) == (0, "PUT a POLYGON ((0 0, 18 0, 0 19, 0 0))\n"), done.stderr
 
     def test_several_layers(self) -> None:
         plan = str(self.file("plan.geojson", FIRST))
@@ -139,12 +122,6 @@ class FilesOfGdal(WithGdal):
         plane = self.folder / "plane.gpkg"
         assert outcome(to_geojson, "--store", script, "--program", program, "--output", plane)[:2] == (0, "")
         assert json.loads(gdal_files.as_geojson(plane))["crs"]["properties"]["name"] == coordinate_systems.UNKNOWN
-
-    def test_a_name_that_begins_with_a_dash_is_no_option(self) -> None:
-        with contextlib.chdir(self.folder):
-            self.made("a.gpkg", str(self.file("plan.geojson", FIRST))).rename("-a.gpkg")
-            assert outcome(to_script, "./-a.gpkg", "--factor", 2)[0] == 0
-            assert outcome(to_script, "--factor", 2, "--", "-a.gpkg")[0] == 0
 
 
 class OwnTexts(InFolder):

@@ -170,19 +170,6 @@ def test_empty_frames_make_empty_results() -> None:
     assert overlayd.check(nothing).closes and not len(overlayd.derive("a", {"a": nothing}))
 
 
-def test_a_check_finds_what_the_pages_say() -> None:
-    parcels = geopandas.read_file(MAPS / "parcels.geojson").set_index("nr")
-    found = overlayd.check(parcels)
-    assert found.closes
-    own = zip(found.overlaps.index_left, found.overlaps.index_right, found.overlaps.shared_area.round(9))
-    assert [*map(tuple, own)][0][2] == 5.565268694 and len(found.overlaps) == 3
-    assert {frozenset(map(str, pair)) for pair in zip(found.overlaps.index_left, found.overlaps.index_right)} == {
-        frozenset({"202", "203"}), frozenset({"102", "301"}), frozenset({"101", "301"})}
-    assert len(found.gaps) == 2 and found.gaps.gap_area.sum() == pytest.approx(24.92545, abs=1e-5)
-    assert found.gaps.area.sum() == pytest.approx(found.gaps.gap_area.sum(), rel=1e-9)
-    assert (found.overlaps.shared_area_bound < 1e-9).all() and found.overlaps.crs == parcels.crs
-
-
 @pytest.mark.parametrize("expression", ["(a | b) - c", "a & b ^ c", "c - (a & c)", "a"])
 @pytest.mark.parametrize("seed", range(3))
 def test_an_expression_is_the_region_that_shapely_has(expression: str, seed: int) -> None:

@@ -3,7 +3,6 @@
 import random
 import re
 import unittest.mock
-import urllib.parse
 from decimal import Decimal
 from fractions import Fraction
 from typing import Any
@@ -50,11 +49,6 @@ def put_lines() -> list[str]:
     return [line for line in text.splitlines() if line.startswith("PUT ")]
 
 
-def found(value: dict[str, Any], document: dict[str, Any]) -> dict[str, Any]:
-    """A parameter, or what a reference to one names."""
-    return document["components"]["parameters"][value["$ref"].rpartition("/")[2]] if "$ref" in value else value
-
-
 class Iceland(FrontCase):
     lines = (*put_lines(), "DEFINE both = iceland_110m & iceland_50m", "DEFINE one = iceland_110m ^ iceland_50m",
              "DEFINE none = one & both")
@@ -88,23 +82,6 @@ class Iceland(FrontCase):
                 item = self.client.get(f"{linked(one, 'self')}/items/{feature['id']}")
                 assert {key: item[key] for key in feature} == feature
                 assert linked(item, "collection") == linked(one, "self")
-
-    def test_the_description_names_each_page(self) -> None:
-        """Each path of the description answers, and takes the words that it lists."""
-        document = self.client.get("/api")
-        assert (document["openapi"], document["servers"]) == ("3.0.3", [{"url": ROOT}])
-        words = {"bbox": "-20,63,-18,64", "limit": "2", "offset": "1", "datetime": "2020-01-01/..", "x": "-19",
-                 "y": "65", "crs": "http://www.opengis.net/def/crs/OGC/1.3/CRS84", "columns": "16,17"}
-        words["bbox-crs"], words["f"] = words["crs"], "json"
-        words["revision"] = self.client.get("/collections/both")["revision"]
-        for path, methods in document["paths"].items():
-            if "get" in methods:
-                given = [found(one, document) for one in methods["get"]["parameters"]]
-                listed = [one["name"] for one in given if one["in"] == "query"]
-                asked = path.format(collectionId="both", featureId=1)
-                self.client.get(f"{asked}?{urllib.parse.urlencode({name: words[name] for name in listed})}")
-        assert {path for path, methods in document["paths"].items() if set(methods) & {"put", "delete", "post"}} == \
-            {"/collections/{collectionId}", "/batch"}
 
     def test_pages_of_items_are_all_of_them(self) -> None:
         whole = self.client.get("/collections/one/items")

@@ -2,12 +2,10 @@
 
 import dataclasses
 import itertools
-import json
 import math
 import random
 import time
 from collections.abc import Iterator
-from decimal import Decimal
 from fractions import Fraction
 
 import numpy as np
@@ -27,7 +25,7 @@ from overlayd.kernel.rows import CELLS, RINGS, WIDE, Kind, Relation, Rows
 from overlayd.kernel.shapes import column_of
 
 from . import slabs
-from .common import TOP, Programs
+from .common import Programs
 
 Map = list[list[slabs.Ring]]
 GRID = Grid(Fraction(1))
@@ -116,24 +114,6 @@ def test_an_expression_over_maps_is_that_of_their_unions(seed: int, grid: int) -
         derive({"built": column(maps["built"])}, "built | woods", ask)
 
 
-def features_of(name: str) -> Map:
-    """The features of a map of the examples, in millimetres."""
-    text = TOP.joinpath("examples", "maps", name).read_text(encoding="utf-8")
-    return [[[(int(1000 * x), int(1000 * y)) for x, y in ring[:-1]] for ring in feature["geometry"]["coordinates"]]
-            for feature in json.loads(text, parse_float=Decimal)["features"]]
-
-
-@pytest.mark.features
-def test_the_maps_of_the_examples() -> None:
-    maps = [features_of(name) for name in ("parcels.geojson", "zones.geojson")]
-    found = overlay(*(column(own, 1000) for own in maps), asked(grid=Grid()))
-    assert found.laid.factor == 1000 and found.laid.line.startswith("nothing is rounded")
-    for row, (i, j) in enumerate(found.pairs.tolist()):
-        area = slabs.common(maps[0][i], maps[1][j]) / 1000**2
-        assert abs(found.areas().exact(row) - area) <= found.areas().bound(row)
-    assert len(found) == sum(slabs.common(a, b) > 0 for a in maps[0] for b in maps[1])
-
-
 def star(corners: int, turn: float) -> slabs.Ring:
     """A ring that crosses itself at each step."""
     angles = [2 * math.pi * (place * (corners // 2) / corners + turn) for place in range(corners)]
@@ -167,16 +147,6 @@ def test_progress_goes_from_nothing_to_all() -> None:
     assert Programs.features is not None
     assert check(column(features), Ask(Programs.features, grid=GRID, goes_on=goes_on, size=10)).audit.closes()
     assert parts == sorted(parts) and parts[-1] <= 1
-
-
-@pytest.mark.features
-def test_maps_of_nothing() -> None:
-    empty = of_bytes([None, None])
-    assert not len(overlay(empty, column([[SQUARE]]), asked(grid=Grid())))
-    assert not len(overlay(of_bytes([]), of_bytes([]), asked(grid=Grid())))
-    found = check(empty, asked(grid=Grid()))
-    assert found.audit.closes() and found.covered.exact(0) == 0
-    assert derive({"a": empty}, "a", asked()).area.exact(0) == 0
 
 
 def test_faults_say_the_map_the_feature_and_what_would_do() -> None:

@@ -285,6 +285,8 @@ class Splitting(InFolder):
         status, output, errors = on_file(to_script, text, "--name-by", "name")
         assert (status, output) == (1, "PUT Short POLYGON ((0 0, 9 0, 9 9, 0 9, 0 0))\n")
         assert "refused: layer Long: too many steps: 2049 of at most 2048; --split writes them exactly" in errors
+        several = geojson(("Many", [[zigzag(1000, left)] for left in (0, 2000, 4000)]))
+        assert "layer Many: too many steps: 3000 of at most 2048" in on_file(to_script, several, "--name-by", "name")[2]
         status, output, errors = on_file(to_script, text, "--name-by", "name", "--union")
         assert (status, output) == (1, "PUT Short POLYGON ((0 0, 9 0, 9 9, 0 9, 0 0))\n")
 

@@ -103,13 +103,6 @@ class Folders(InTasks):
         folder = tasks.begin(self.work, {"factor": "1000", "asks": "names"}, none())
         assert (folder.count(), folder.run()) == (12, {"asks": "names", "factor": "1000"})
 
-    def test_a_folder_of_another_run_is_refused(self) -> None:
-        self.begun(factor="1000")
-        for run, named in (({"factor": "100"}, "factor: '1000' there, '100' here"), ({}, "factor: '1000' there, None"),
-                           ({"factor": "1000", "asks": "gaps"}, "asks: 'names' there, 'gaps' here")):
-            with self.assertRaisesRegex(FolderFault, named):
-                tasks.begin(self.work, {"asks": "names", **run}, NAMES)
-
     def test_a_folder_of_other_files_is_refused_and_left_alone(self) -> None:
         self.work.mkdir()
         (self.work / "parcels.gpkg").touch()

@@ -156,13 +156,6 @@ class Tables(WithMaps):
         assert self.asked("derive", "(flood | slide) - parks", *maps, "--out", out)[0] == 0
         assert [one["properties"] for one in json.loads(out.read_text())["features"]] == [{"area": 75.0}]
 
-    def test_a_folder_of_another_question_is_not_gone_on_with(self) -> None:
-        whole = self.map("a", {"A": square(0, 0, 10), "B": square(5, 0, 10)})
-        words = "check", whole, "--work", self.folder / "work"
-        assert self.asked(*words, "--factor", 1)[0] == 0
-        assert self.asked(*words, "--factor", 1, "--no-audit")[0] == 0
-        assert "tasks of another run (factor: '1' there, '10' here)" in self.refused(*words, "--factor", 10)
-
     def test_three_features_on_each_other_and_one_that_crosses_itself(self) -> None:
         whole = self.map("a", {"A": square(0, 0, 6), "B": square(2, 2, 6), "C": square(4, 0, 6),
                                "bow": [[20, 0], [24, 4], [24, 0], [20, 4], [20, 0]]})
@@ -195,11 +188,6 @@ class Tables(WithMaps):
         assert "audit: 1 of 1 features of a are the sum of their pieces\n" in errors
         assert "audit: 20 of 20 features of b are the sum of their pieces\n" in errors
         assert status == 0
-
-    def test_features_that_lie_deep(self) -> None:
-        b = self.map("b", {f"Z{at}": square(2, 2, 5 + at) for at in range(20)})
-        status, rows, errors = self.asked("pieces", self.map("a", {"P": square(0, 0, 10)}), b, "--factor", 1)
-        assert (status, [row[3] for row in short(rows) if row[:2] == ["1", ""]]) == (0, [36.0]), errors
 
     def test_an_island_in_a_hole_and_long_edges(self) -> None:
         ring = {"type": "Polygon", "coordinates": [square(0, 0, 3000), square(1000, 1000, 1000)]}
@@ -252,11 +240,6 @@ class Refusals(WithMaps):
         assert "b.json: " in self.line(self.file("b.json", "{"))
         assert "a map is GeoJSON" in self.line(self.file("b.json", "{"))
         assert "No such file" in self.refused("pairs", self.good, self.folder / "none.geojson", "--factor", 1)
-
-    def test_maps_of_different_coordinates(self) -> None:
-        file = self.map("b", {"Z": square(0, 0, 1)}, "urn:ogc:def:crs:EPSG::25832")
-        self.assertEqual(self.line(file), "good.geojson has coordinates of OGC:CRS84, b.geojson of EPSG:25832: bring "
-                         "one to those of the other, as by ogr2ogr -t_srs")
 
     def test_numbers_that_are_no_degrees_are_not_taken_for_them(self) -> None:
         unnamed, utm = (self.map(name, {"Z": square(480000, 5400000, 1)}, crs)

@@ -46,11 +46,14 @@ def test_pairs_are_the_rows_of_the_table(frames: list[Any]) -> None:
 
 
 def test_a_check_has_the_rows_of_the_table(frames: list[Any]) -> None:
-    found = overlayd.check(frames[0].set_index("nr"), grid_size=GRID).overlaps
+    found = overlayd.check(frames[0].set_index("nr"), grid_size=GRID)
     theirs = table(check, PARCELS, "--a-id", "nr")
-    assert [(row.index_left, row.index_right, repr(row.shared_area), repr(row.shared_area_bound))
-            for row in found.itertuples()] == [(row["a"], row["b"], row["area"], row["bound"]) for row in theirs]
-    assert len(theirs) == 3
+    assert [(row.index_left, row.index_right, repr(row.shared_area), repr(row.shared_area_bound)) for row in
+            found.overlaps.itertuples()] == [(row["a"], row["b"], row["area"], row["bound"]) for row in theirs]
+    assert found.closes and len(theirs) == 3 and found.overlaps.crs == frames[0].crs
+    # The gaps of the page, which test_example_maps works out by shapely.
+    assert len(found.gaps) == 2 and found.gaps.gap_area.sum() == pytest.approx(24.92545, abs=1e-5)
+    assert found.gaps.area.sum() == pytest.approx(found.gaps.gap_area.sum(), rel=1e-9)
 
 
 @pytest.mark.parametrize("expression", ["zones - parcels", "zones & parcels", "zones ^ parcels"])

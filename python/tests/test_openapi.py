@@ -5,13 +5,16 @@ The rules of OpenAPI that are looked at are written down here; jsonschema says w
 import json
 import re
 import unittest
+import urllib.parse
 from collections.abc import Iterator
+from itertools import product
 from typing import Any
 
 import jsonschema
 import pytest
 
 from overlayd.web import schemas
+from overlayd.web.map_scale import CRS84
 from .testing import SHIFTED, SQUARE, FrontCase, Told
 
 pytestmark = pytest.mark.live
@@ -142,17 +145,25 @@ class OfLayers(FrontCase, Judged):
     scale = {"factor": 1, "origin": [-10, 40], "crs": "OGC:CRS84", "digits": 6}
 
     def test_each_page_answers_as_it_is_described(self) -> None:
+        """Without words but those that it needs, and with all that the description lists."""
         self.wait_for("both")
         document = self.check_document(self.client.get("/api"))
+        given = {"bbox": "-20,40,20,60", "limit": "2", "offset": "1", "datetime": "2020-01-01/..", "x": "-5/3",
+                 "y": "127/3", "crs": CRS84, "bbox-crs": CRS84, "columns": "16,17", "f": "json"}
         for path, methods in document.value["paths"].items():
             if "get" not in methods:
                 continue
             words = [document.found(one) for one in methods["get"]["parameters"]]
-            assert "f" in [one["name"] for one in words], path
-            for layer in ("A", "both", "E"):
-                asked = path.format(collectionId=layer, featureId=1)
-                told = self.client.ask(f"{asked}?{'x=-5/3&y=127/3&' if 'locate' in path else ''}f=json")
+            listed = [one["name"] for one in words if one["in"] == "query"]
+            assert "f" in listed, path
+            for layer, names in product(("A", "both", "E"), (listed, {*listed} & {"x", "y", "f"})):
+                given["revision"] = self.client.get(f"/collections/{layer}")["revision"]
+                query = urllib.parse.urlencode({name: given[name] for name in names})
+                told = self.client.ask(f"{path.format(collectionId=layer, featureId=1)}?{query}")
+                assert told.status == 200 or layer != "both", (path, query, told)
                 self.check_answer(document, told, "get", path)
+        assert {path for path, methods in document.value["paths"].items() if set(methods) & {"put", "delete", "post"}
+                } == {"/collections/{collectionId}", "/batch"}
 
     def test_changes_and_refusals_are_described(self) -> None:
         document = self.check_document(self.client.get("/api"))

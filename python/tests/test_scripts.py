@@ -92,18 +92,6 @@ class ToScript(unittest.TestCase):
             for number in ("1e400000000", "1e-400000000", "1/0", "inf"):
                 assert on_file(to_script, SQUARE, word, number)[:2] == (2, "")
 
-    def test_too_many_steps(self) -> None:
-        def zigzag(steps: int) -> str:
-            points = [f"{i} {i * 7919 % 1000}" for i in range(steps)] + ["0 0"]
-            return "POLYGON ((" + ", ".join(points) + "))"
-        assert on_file(to_script, zigzag(1000))[0] == 0
-        status, output, errors = on_file(to_script, zigzag(2049))
-        assert (status, output) == (1, "")
-        assert "refused: layer input_file: too many steps: 2049 of at most 2048; --split writes them" in errors
-        status, output, errors = on_file(to_script, "\n".join([zigzag(1000), zigzag(1000), zigzag(1000)]))
-        assert (status, output) == (1, "")
-        assert "refused: layer input_file: too many steps: 3000 of at most 2048" in errors
-
     def test_real_shapes(self) -> None:
         files = [path("data", f"iceland_{scale}.geojson") for scale in ("110m", "50m")]
         words = "--factor", 42262, "--factor-y", 100000, "--origin", -19, 65

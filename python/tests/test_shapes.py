@@ -57,36 +57,7 @@ def meets(rings: list[list[Place]], box: Box) -> bool:
     return any(touch(a, b, c, d) for ring in rings for a, b in zip(ring, ring[1:] + ring[:1]) for c, d in sides)
 
 
-def random_rings(source: random.Random, reach: int) -> list[list[tuple[int, int, int]]]:
-    """A triangle or a quadrangle with corners in fractions, and at times another beside or within it."""
-
-    def corner() -> tuple[int, int, int]:
-        w = source.choice((1, 1, 2, 3, 7))
-        return source.randrange(-reach * w, reach * w + 1), source.randrange(-reach * w, reach * w + 1), w
-
-    rings = [[corner() for _ in range(source.choice((3, 3, 4)))] for _ in range(source.choice((1, 1, 2)))]
-    return [ring for ring in rings if len({(Fraction(x, w), Fraction(y, w)) for x, y, w in ring}) == len(ring)]
-
-
 class Shapes(unittest.TestCase):
-    def test_a_polygon_meets_a_box_as_another_way_says(self) -> None:
-        source, scale, found = random.Random(1), testing.map_scale(), [0, 0]
-        for _ in range(1500):
-            rings = random_rings(source, 6)
-            if not rings:
-                continue
-            feature = Feature(1, rings, scale)
-            w = source.choice((1, 1, 2, 3))
-            xs = sorted(Fraction(source.randrange(-8 * w, 8 * w + 1), w) for _ in range(2))
-            ys = sorted(Fraction(source.randrange(-8 * w, 8 * w + 1), w) for _ in range(2))
-            box = Box(xs[0], ys[0], xs[1], ys[1])
-            # The quick look by the first ring is of polygons, whose other rings lie within it.
-            feature.box = Box.of(corner for ring in rings for corner in ring)
-            right = meets([[(Fraction(x, w), Fraction(y, w)) for x, y, w in ring] for ring in rings], box)
-            assert feature.meets(box) == right, (rings, box)
-            found[right] += 1
-        assert min(found) > 400
-
     def test_a_box_that_touches_in_a_point_meets(self) -> None:
         feature = Feature(1, [[(0, 0, 1), (3, 1, 1), (0, 2, 1)]], testing.map_scale())
         for box, right in (

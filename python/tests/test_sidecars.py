@@ -105,15 +105,6 @@ class Dumps(WithProgram):
         assert outcome(dump_store, *self.words) == (1, "", told)
         assert sorted(file.name for file in self.folder.glob("again.*")) == ["again.db"]
 
-    def test_a_scale_that_belongs_to_no_script_is_not_written_over(self) -> None:
-        mine = self.file("again.scale.json", '{"title": "Mine", "factor": 10}')
-        status, _, told = outcome(dump_store, *self.words)
-        assert (status, mine.read_text(), len(list(self.folder.glob("again.*")))) == \
-            (1, '{"title": "Mine", "factor": 10}', 1)
-        assert f"--output: {mine} stands, would be written otherwise, and belongs to no script" in told
-        self.file("again.txt", f"PUT plan {SQUARE}\n")
-        assert outcome(dump_store, *self.words) == (0, "", "")
-
 
 class SeveralStores(InFolder):
     def test_each_has_its_digests(self) -> None:
