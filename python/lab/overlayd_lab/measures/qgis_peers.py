@@ -1,12 +1,12 @@
 """How long do the plugin's algorithms take in QGIS, and how many rows have they, beside QGIS's own?
 
     /usr/bin/python3 -m overlayd_lab.measures.qgis_peers PROGRAM [--maps NAME=FILE,FILE].. [--parcels N] [--zones N]
-        [--alone]
+        [--alone] [--only NAME]..
 
 Each is run once by qgis_process, in a process of its own without a screen, from files to a GeoPackage: over
 examples/maps, the counties of North Carolina and the same moved, a map that ../map_making.py makes, and what --maps
 names. A figure is of user and system, with QGIS's own start, which the first line has. --alone leaves QGIS's own
-algorithms out. Needs qgis and python3-qgis.
+algorithms out, --only all maps but these. Needs qgis and python3-qgis.
 """
 
 from __future__ import annotations
@@ -25,6 +25,7 @@ from overlayd_lab.processor_time import processor
 QGIS = "/usr/bin/qgis_process.bin"  # Debian's qgis_process hands on words that it refuses
 SHIFT = {"DELTA_X": 0.1, "DELTA_Y": 0.05}
 Maps = tuple[str, str]
+Given = dict[str, object]  # an algorithm's words
 
 
 class Process:
@@ -49,7 +50,7 @@ class Process:
 
     def run(self, name: str, **words: object) -> tuple[float, str]:
         """The seconds of an algorithm, and how many it says that there are, else how many features it wrote."""
-        given: dict[str, object] = {"OUTPUT": self.folder / f"{name.replace(':', '_')}.gpkg", **words}
+        given: Given = {"OUTPUT": self.folder / f"{name.replace(':', '_')}.gpkg", **words}
         out = pathlib.Path(str(given["OUTPUT"]))
         out.unlink(missing_ok=True)
         parts = [f"{key}={value}" for key, values in given.items()
@@ -67,9 +68,9 @@ def features(path: pathlib.Path) -> int:
     return int(store.GetLayer().GetFeatureCount())
 
 
-def questions(maps: Maps, register: pathlib.Path) -> list[tuple[str, dict[str, object], str | None, dict[str, object]]]:
+def questions(maps: Maps, register: pathlib.Path, packed: pathlib.Path) -> list[tuple[str, Given, str | None, Given]]:
     """What is run: the plugin's algorithm with its words, and QGIS's own beside it."""
-    both: dict[str, object] = {"INPUT": maps[0], "OVERLAY": maps[1]}
+    both: Given = {"INPUT": maps[0], "OVERLAY": maps[1]}
     names = [pathlib.Path(one).stem for one in maps]
     kept = {"FILE": register, "TABLE": "pairs", "KIND": 0, "LAYER": names[0], "OTHER": names[1]}
     return [
@@ -82,15 +83,18 @@ def questions(maps: Maps, register: pathlib.Path) -> list[tuple[str, dict[str, o
         ("registerinit", {"LAYERS": maps, "FILE": register}, None, {}),
         ("registerkeep", kept, None, {}),
         ("registerrefresh", {"FILE": register}, None, {}),
+        ("registerstatus", {"FILE": register}, None, {}),
+        ("registeradopt", {"FILE": packed, "LAYERS": ",".join(names), "SNAP": True}, None, {}),
     ]
 
 
 def measure(process: Process, name: str, maps: Maps, alone: bool) -> None:
     """Prints the lines of two maps."""
-    register = process.folder / "register.gpkg"
+    register, packed = (process.folder / f"{name}.gpkg" for name in ("register", "packed"))
     for old in process.folder.glob("*.gpkg"):
         old.unlink()
-    for own, words, theirs, other_words in questions(maps, register):
+    process.run("native:package", LAYERS=maps, OUTPUT=packed)
+    for own, words, theirs, other_words in questions(maps, register, packed):
         seconds, told = process.run(f"exactoverlay:{own}", **words)
         line = f"| {name} | `{own}` {'intersection' if words.get('HOW') == 0 else 'union' if 'HOW' in words else ''}"
         line += f" | {seconds:.1f} | {told} |"
@@ -107,6 +111,7 @@ def main() -> int:
     parser.add_argument("--parcels", type=int, default=300_000)
     parser.add_argument("--zones", type=int, default=20_000)
     parser.add_argument("--alone", action="store_true", help="without QGIS's own algorithms")
+    parser.add_argument("--only", action="append", metavar="NAME", help="these maps alone, of those above")
     words = parser.parse_args()
     with tempfile.TemporaryDirectory() as made:
         folder = pathlib.Path(made)
@@ -124,7 +129,7 @@ def main() -> int:
                  **dict(text.split("=") for text in words.maps)}
         print(f"QGIS's start {process.asked('--version')[0]:.1f} s\n\n| Maps | Algorithm | seconds | gives | beside |\n"
               "|---|---|---|---|---|")
-        for name, files in given.items():
+        for name, files in given.items() if words.only is None else ((name, given[name]) for name in words.only):
             one, other = files.split(",")
             measure(process, name, (one, other), words.alone)
     return 0
