@@ -1,7 +1,8 @@
 #!/usr/bin/python3
 """Makes the plugin for QGIS whole, in a folder of plugins, or as a zip to install.
 
-    qgis/make_zip.py OUT [PROGRAM]          OUT: a folder of plugins, or NAME.zip; PROGRAM: a built overlay_features
+    qgis/make_zip.py NAME.zip [PROGRAM]     PROGRAM: a built overlay_features; else the one that ./overlay asks
+    qgis/make_zip.py FOLDER [PROGRAM]       a folder of plugins; else without one
 
 The parts of the package overlayd that it stands on go to exactoverlay/ext/overlayd, so that another version of the
 package, or of another plugin, is none of its business in QGIS's one interpreter."""
@@ -50,6 +51,11 @@ def main(out: str, program: str | None = None) -> None:
         shutil.rmtree(target / PLUGIN, ignore_errors=True)
         fill(target / PLUGIN, program)
         return
+    if program is None:
+        sys.path.insert(0, str(PACKAGE.parent))
+        from overlayd.program_files import FEATURES, found_program
+
+        program = found_program(FEATURES)
     with tempfile.TemporaryDirectory() as folder:
         fill(pathlib.Path(folder, PLUGIN), program)
         seconds = int(os.environ.get("SOURCE_DATE_EPOCH", time.time()))

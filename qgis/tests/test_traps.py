@@ -29,8 +29,9 @@ def test_a_program_without_the_executable_bit_runs(qgis: Any, plugins: pathlib.P
     """QGIS unpacks a zip without modes."""
     from exactoverlay import finding
 
-    subprocess.run([sys.executable, TOP / "qgis" / "make_zip.py", tmp_path / "a.zip", os.environ["OVERLAY_FEATURES"]],
-                   check=True)
+    (tmp_path / "overlay_features").symlink_to(os.environ["OVERLAY_FEATURES"])
+    found = {**os.environ, "PATH": f"{tmp_path}:{os.environ['PATH']}"}  # where none is built in the clone
+    subprocess.run([sys.executable, TOP / "qgis" / "make_zip.py", tmp_path / "a.zip"], env=found, check=True)
     with zipfile.ZipFile(tmp_path / "a.zip") as file:
         file.extractall(tmp_path)
     brought = tmp_path / "exactoverlay" / "bin" / "linux-x86_64" / "overlay_features"

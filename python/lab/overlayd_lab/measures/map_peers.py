@@ -1,5 +1,5 @@
-"""How long do the overlaps of two maps take, and what are they: `overlay pairs` beside shapely, geopandas, PostGIS and
-QGIS, and the plugin in QGIS?
+"""How long do the overlaps of two maps take, and what are they: `overlay pairs`, `overlayd.overlay`, `overlayd.pairs`
+and the plugin in QGIS, beside shapely, geopandas, PostGIS and QGIS?
 
 /usr/bin/python3 -m overlayd_lab.measures.map_peers PROGRAM [--parcels N] [--zones N] [--lattice] [--folder
 FOLDER] [--only PEER]..
@@ -24,6 +24,7 @@ import time
 from collections.abc import Callable, Iterator
 from typing import Any, NamedTuple
 
+from overlayd.api.asking import VARIABLE
 from overlayd_lab import LAB, TOP
 from overlayd_lab.counting import Words
 from overlayd_lab.measures.qgis_peers import Process
@@ -68,9 +69,23 @@ def by_geopandas(parcels: Any, zones: Any) -> Iterator[tuple[str, str, float]]:
     yield from zip(made.parcel, made.zone, made.area)
 
 
-READERS: dict[str, Callable[[Any, Any], Iterator[Any]]] = {"shapely": by_shapely, "shapely, whole": by_whole_shapely,
-                                                           "geopandas": by_geopandas}
+def by_overlay(parcels: Any, zones: Any) -> Iterator[tuple[str, str, float]]:
+    import overlayd
 
+    made = overlayd.overlay(parcels, zones)
+    yield from zip(made.parcel, made.zone, made.area)
+
+
+def by_pairs(parcels: Any, zones: Any) -> Iterator[tuple[str, str, float]]:
+    import overlayd
+
+    made = overlayd.pairs(parcels, zones, predicate="shares_area")
+    yield from zip(made.parcel, made.zone, made.shared_area)
+
+
+READERS: dict[str, Callable[[Any, Any], Iterator[Any]]] = {
+    "shapely": by_shapely, "shapely, whole": by_whole_shapely, "geopandas": by_geopandas,
+    "overlayd.overlay": by_overlay, "overlayd.pairs": by_pairs}
 
 IN_QGIS = {"QGIS": "native:intersection", "the plugin": "exactoverlay:pieces"}
 PEERS = [*READERS, "PostGIS", *IN_QGIS]
@@ -96,6 +111,7 @@ def peer(name: str, program: str, folder: pathlib.Path, table: pathlib.Path) -> 
     else:
         import geopandas
 
+        os.environ[VARIABLE] = program
         rows = READERS[name](*(geopandas.read_file(folder / f"{kind}.gpkg") for kind in ("parcels", "zones")))
     with table.open("w", newline="") as file:
         csv.writer(file).writerows(row for row in rows if row[2] > 0)
