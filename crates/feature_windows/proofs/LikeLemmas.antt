@@ -79,12 +79,11 @@ like_added core before xs old new h k = subst (LookLike core (before ++ xs)) (sy
 pub adds_as_it_is : (core : Box) (ring : List WholePoint) (old new : List (List WholePoint)) → new ≡ old ++ ring ∷ [] → AddsLike core (ring ∷ []) old new
 adds_as_it_is core ring old new e = record { more = ring ∷ []; added = e; like = like_self core (ring ∷ []) }
 
-pub adds_reduced : (core : Box) (ring kept : List WholePoint) (old new : List (List WholePoint)) → IsReduced core ring kept → new ≡ old ++ kept ∷ [] → AddsLike core (ring ∷ []) old new
-adds_reduced core ring kept old new r e = record {
-  more = kept ∷ [];
-  added = e;
-  like = record { shows = λ q positive here. rw (one_ring ring, one_ring kept) (r.shows q positive here) };
-}
+pub adds_as : (core : Box) (xs ys old new : List (List WholePoint)) → LookLike core xs ys → AddsLike core ys old new → AddsLike core xs old new
+adds_as core xs ys old new h k = record { more = k.more; added = k.added; like = like_through core xs ys k.more h k.like }
+
+pub like_reduced : (core : Box) (ring kept : List WholePoint) → IsReduced core ring kept → LookLike core (ring ∷ []) (kept ∷ [])
+like_reduced core ring kept r = record { shows = λ q positive here. rw (one_ring ring, one_ring kept) (r.shows q positive here) }
 
 -- ---- a ring that does not meet a core
 true_false : {A : Type 0} (b : Bool) → b ≡ true → b ≡ false → A

@@ -5,7 +5,7 @@ ghost use Rattle.arrange.specs.Marked.{marked_of};
 ghost use Rattle.near_steps.specs.Cores.{box_of};
 ghost use Rattle.near_steps.specs.Drawn.{HasDrawn};
 ghost use Rattle.feature_windows.specs.Shown.{rings_at, AreShown, HasLayer};
-ghost use Rattle.feature_windows.specs.Layers.{corners_of, AddsLike, HasLayers};
+ghost use Rattle.feature_windows.specs.Layers.{corners_of, AddsLike, HasLayers, LookLike};
 
 use crate::fault::WindowsFault;
 use crate::rings::{Rings, is_open, parted};
@@ -34,7 +34,10 @@ pub(crate) fn add_near(
     Ok(())
 }
 
-/// Adds a ring, unless it lies off the core on one side: then it looks like none if it is closed, and is refused if not.
+/// A ring of so many points is long: it is not taken along as it is.
+const LONG_RING: usize = 64;
+
+/// Adds a ring as it looks from within a core.
 fn add_ring(
     alloc: Global,
     to: &mut Rings,
@@ -43,37 +46,36 @@ fn add_ring(
 ) -> Result<(), WindowsFault>
     ensures { OnOk result (AddsLike (box_of core.now) (points.now ∷ []) to.old to.new) }
 {
-    if lie_off(core, points) {
-        if is_open(points) {
+    if points.len() < LONG_RING {
+        return add_left(to, points, points, core);
+    }
+    let left = reduced(alloc, points, core)?;
+    add_left(to, points, &left, core)
+}
+
+/// Adds what is left of a ring for a core, unless it lies off the core on one side: then it looks like none if it is
+/// closed, and is refused if not.
+fn add_left(
+    to: &mut Rings,
+    points: &[FarPoint],
+    left: &[FarPoint],
+    core: &Core,
+) -> Result<(), WindowsFault>
+    requires { LookLike (box_of core.now) (points.now ∷ []) (left.now ∷ []) }
+    ensures { OnOk result (AddsLike (box_of core.now) (points.now ∷ []) to.old to.new) }
+{
+    if lie_off(core, left) {
+        if is_open(left) {
             return Err(WindowsFault::BadRing);
         }
         return Ok(());
     }
-    add_reduced(alloc, to, points, core)?;
+    if left.len() < 4 {
+        to.add(points)?;
+        return Ok(());
+    }
+    to.add(left)?;
     Ok(())
-}
-
-/// Adds a ring, or of a long one what is left of it for a core.
-fn add_reduced(
-    alloc: Global,
-    to: &mut Rings,
-    points: &[FarPoint],
-    core: &Core,
-) -> Result<(), AllocError>
-    ensures { OnOk result (AddsLike (box_of core.now) (points.now ∷ []) to.old to.new) }
-{
-    if points.len() < 64 {
-        return to.add(points);
-    }
-    let Some(near) = NearCore::of(core) else {
-        return to.add(points);
-    };
-    let less = reduced(alloc, points, &near)?;
-    if less.len() < 4 {
-        to.add(points)
-    } else {
-        to.add(&less)
-    }
 }
 
 /// What layers look like from within a core, and its border as the last layer.

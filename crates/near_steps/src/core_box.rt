@@ -5,9 +5,7 @@ ghost use Rattle.block_reading.specs.Jobs.{is_near};
 ghost use Rattle.map_window.specs.Window.{Box};
 ghost use Rattle.map_window.specs.Drawn.{clamped, placed, is_held};
 ghost use Rattle.near_steps.specs.Cores.{box_of, fits, is_close_span, low_of, plane_of};
-ghost use Rattle.near_steps.specs.Thinned.{sides_of};
 
-use crate::sides::Sides;
 use block_reading::{Core, FarPoint};
 use plane_base::{COORD_MAX, Pt};
 use std::marker::Model;
@@ -159,15 +157,15 @@ impl NearCore {
         self.low_y
     }
 
-    /// Off which sides of the core a point lies.
-    pub(crate) fn sides(&self, p: FarPoint) -> Sides
-        ensures { result ≡ sides_of self.now p }
+    /// The core as a job has it.
+    pub(crate) fn core(&self) -> Core
+        ensures { box_of result ≡ self.now }
     {
-        Sides {
-            left: p.x < self.low_x,
-            right: self.high_x < p.x,
-            under: p.y < self.low_y,
-            over: self.high_y < p.y,
+        Core {
+            low_x: self.low_x,
+            high_x: self.high_x,
+            low_y: self.low_y,
+            high_y: self.high_y,
         }
     }
 
