@@ -90,7 +90,8 @@ def test_numbers_are_spelled_as_python_spells_them(power: int) -> None:
     parts = draw.random(500) * 10.0**power
     whole = np.rint(draw.random(500) * 10.0 ** (3 + power % 12)) / 10.0 ** (power % 7)
     steps = [np.nextafter(whole, 0), np.spacing(whole) * 4, 2.0 ** draw.integers(-140, 60, 500), -whole]
-    given = np.concatenate([parts, whole, *steps, [0.0, -0.0, 10.0**power, 5e-324, np.inf, np.nan]])
+    ties = draw.integers(2**46, 2**53, 500) / 2.0 ** draw.integers(8, 20, 500)  # some half way between two decimals
+    given = np.concatenate([parts, whole, *steps, ties, [0.0, -0.0, 10.0**power, 5e-324, np.inf, np.nan]])
     found = [column[column != PAD].tobytes().decode() for column in spelled(given).T]
     assert found == [*map(repr, given.tolist())]
 

@@ -10,7 +10,7 @@ MIXED = np.int64(0x9E3779B97F4A7C1)
 
 def offsets(counts: Numbers) -> Numbers:
     """Where each part begins, and where the last one ends."""
-    return np.concatenate([[0], np.cumsum(counts)]).astype(np.int64)
+    return np.concatenate([[0], np.cumsum(counts)]).astype(np.int64, copy=False)
 
 
 def owners(counts: Numbers) -> Numbers:

@@ -39,14 +39,18 @@ def decimals(doubles: Numbers) -> Decimals:
     scaled = own.astype(np.longdouble) * POWERS[places]
     numbers: Numbers = np.rint(scaled).astype(np.int64)
     off, gap = (scaled - numbers).astype(float), GAPS[places] / 2
-    slack = numbers * (EPSILON * np.where(places > EXACT_PLACES, 2, 0.5))
+    raised = np.ldexp(own, np.minimum(places, EXACT_PLACES))
+    is_whole = raised == np.floor(raised)  # the double itself is a decimal of so many places
+    slack = np.where(is_whole, 0, numbers * (EPSILON * np.where(places > EXACT_PLACES, 2, 0.5)))
     over = np.spacing(own) * gap  # half way to the doubles next to it
     under = np.where(np.frexp(own)[0] == 0.5, over / 2, over)
     found, are, left = numbers, np.zeros(len(own), bool), is_near
     for unit in (1000, 100, 10, 1):
         next_to = (numbers + unit // 2) // unit * unit
+        is_tie = is_whole & (next_to - numbers == unit / 2)  # then repr takes the one that is even
+        next_to -= np.where(is_tie & (next_to // unit % 2 == 1), unit, 0)
         far = np.abs(numbers - next_to + off)
-        fits = left & (far + slack < np.minimum(under, unit / 2))
+        fits = left & (far + slack < np.where(is_tie, under, np.minimum(under, unit / 2)))
         found, are = np.where(fits, next_to, found), are | fits
         left = left & (far - slack > over)
     return Decimals(np.where(doubles < 0, -found, found), places, are)

@@ -15,7 +15,8 @@ from .steps import Points, Steps
 
 AT_ONCE = 1 << 19  # parts of steps that are looked at together
 LEAST_CELL = 4.0  # units
-WIDEST = 4.0  # a cell is no wider than so many that would have a quarter of a point each
+FINEST = 4.0  # so many cells side by side have one point, were these spread evenly: borders have more in a row
+WIDEST = 2.0  # a cell is no wider than so many points' distance
 ROOM = 2.0  # units round a step in which its candidates lie: half a pixel, and what doubles are off there
 MODULAR = 2.0**110  # products up to which what doubles cannot tell is told modulo 2^64
 
@@ -73,9 +74,9 @@ class Cells:
     def __init__(self, points: Points, steps: Steps) -> None:
         self.left, self.low = int(points.x.min()), int(points.y.min())
         x, y = (points.x - self.left).astype(float), (points.y - self.low).astype(float)
-        least = max(x.max(), y.max(), 1.0) / np.sqrt(len(points)) / 2
+        apart = max(x.max(), y.max(), 1.0) / np.sqrt(len(points))
         reach = float(np.median(steps.reach())) if len(steps) else 0.0
-        self.side = max(least, min(reach, WIDEST * least), LEAST_CELL)
+        self.side = max(apart / FINEST, min(reach, WIDEST * apart), LEAST_CELL)
         self.columns, self.rows = int(x.max() / self.side) + 1, int(y.max() / self.side) + 1
         cell = (x / self.side).astype(np.int64) * self.rows + (y / self.side).astype(np.int64)
         self.order = np.argsort(cell, kind="stable")
