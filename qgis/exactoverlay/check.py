@@ -4,11 +4,10 @@ from __future__ import annotations
 
 from typing import Any
 
-import numpy as np
 from qgis.core import QgsFields, QgsProcessingOutputNumber, QgsProcessingParameterField
 
 from . import reading
-from .exact import DOUBLE, GRID_HELP, TEXT, Exact, put, width_of, with_fields
+from .exact import DOUBLE, GRID_HELP, TEXT, Exact, width_of, with_fields, write
 from .ext.overlayd.api.pieces import Checked, checked
 from .ext.overlayd.kernel import Ask
 
@@ -46,7 +45,8 @@ class Check(Exact):
 
         found = self.asked(parameters, context, feedback, crs, [layer], question)
         feedback.pushInfo(found.overlaps.laid.line)
-        overlaps, gaps = self.overlaps(found, names), self.gaps(found)
+        overlaps = self.overlaps(found, names)
+        gaps = [*zip(found.gaps.areas[:, None].tolist(), found.gaps.outlines.to_list())]
         results: dict[str, Any] = {COUNTS[OVERLAPS]: len(overlaps), COUNTS[GAPS]: len(gaps)}
         heads = ("a", TEXT), ("b", TEXT), *FIELDS
         for name, rows, columns in ((OVERLAPS, overlaps, heads), (GAPS, gaps, (("gap_area", DOUBLE), FIELDS[-1]))):
@@ -54,8 +54,7 @@ class Check(Exact):
             sink, where = self.sink(parameters, name, context, fields, crs, name.lower())
             if sink is None:
                 continue
-            for values, shape in rows:
-                put(sink, fields, [*values, width_of(shape)], shape)
+            write(sink, fields, (([*values, width_of(shape)], shape) for values, shape in rows), feedback)
             results[name] = where
         feedback.pushInfo(f"{len(overlaps)} overlaps, {len(gaps)} gaps")
         if not found.closes:
@@ -64,14 +63,9 @@ class Check(Exact):
 
     @staticmethod
     def overlaps(found: Checked, names: list[str]) -> list[tuple[list[Any], bytes]]:
-        """The overlaps, the largest first."""
-        rows, areas, bounds = found.overlaps, found.overlaps.areas().doubles(), found.overlaps.areas().bounds()
+        """Values and shapes of the overlaps."""
+        rows = found.overlaps
         assert rows.outlines is not None
-        return [([*(names[place] for place in rows.pairs[row].tolist()), float(areas[row]), float(bounds[row])],
-                 rows.outlines.shape(row)) for row in np.argsort(-areas, kind="stable").tolist()]
-
-    @staticmethod
-    def gaps(found: Checked) -> list[tuple[list[Any], bytes]]:
-        """The gaps, the largest first."""
-        gaps = found.gaps.part(np.argsort(-found.gaps.areas, kind="stable"))
-        return [([area], shape) for area, shape in zip(gaps.areas.tolist(), gaps.outlines.to_list())]
+        columns = rows.pairs.tolist(), rows.areas().doubles().tolist(), rows.areas().bounds().tolist()
+        return [([names[a], names[b], area, bound], shape)
+                for (a, b), area, bound, shape in zip(*columns, rows.outlines.to_list())]

@@ -10,7 +10,7 @@ from qgis.core import (QgsFields, QgsMapLayer, QgsProcessing, QgsProcessingExcep
                        QgsProcessingParameterMultipleLayers, QgsProcessingParameterString)
 
 from . import reading
-from .exact import DOUBLE, GRID_HELP, TEXT, Exact, put, with_fields
+from .exact import DOUBLE, GRID_HELP, TEXT, Exact, with_fields, write
 from .ext.overlayd.kernel import Ask, derive
 from .ext.overlayd.kernel.deriving import NAME, Derived
 
@@ -53,8 +53,8 @@ class Derive(Exact):
         fields = with_fields(QgsFields(), ("expression", TEXT), ("polygon_area", DOUBLE))
         sink, where = self.sink(parameters, OUTPUT, context, fields, crs, "region")
         assert found.polygons is not None
-        for area, shape in zip(found.polygons.areas.tolist(), found.polygons.outlines.to_list()):
-            put(sink, fields, [text, area], shape)
+        rows = zip(found.polygons.areas.tolist(), found.polygons.outlines.to_list())
+        write(sink, fields, (([text, area], shape) for area, shape in rows), feedback)
         area = float(found.area.doubles()[0])
         feedback.pushInfo(f"{len(found.polygons.areas)} polygons, of {area!r} square units")
         return {OUTPUT: where, AREA: area}

@@ -3,7 +3,7 @@
 from __future__ import annotations
 
 import pathlib
-from collections.abc import Callable, Sequence
+from collections.abc import Callable, Iterable, Sequence
 from typing import Any
 
 from qgis.core import (QgsFeature, QgsFeatureSink, QgsField, QgsGeometry, QgsProcessing,
@@ -48,7 +48,7 @@ class Exact(QgsProcessingAlgorithm):
     NAME = TITLE = HELP = ""
     GRID, METRES = "GRID", "SQUARE_METRES"
     FAULTS: tuple[type[Exception], ...] = (ValueError,)
-    CANCELLED = "cancelled; nothing is written"
+    CANCELLED = "cancelled; a result that was begun is not whole"
 
     def createInstance(self) -> Any:
         return type(self)()
@@ -163,15 +163,18 @@ def with_fields(fields: Any, *more: tuple[str, Any]) -> Any:
     return fields
 
 
-def put(sink: Any, fields: Any, values: list[Any], shape: bytes) -> None:
-    """Writes a feature."""
-    feature, geometry = QgsFeature(fields), QgsGeometry()
-    geometry.fromWkb(shape)
-    geometry.convertToMultiType()
-    feature.setAttributes(values)
-    feature.setGeometry(geometry)
-    if not sink.addFeature(feature, QgsFeatureSink.FastInsert):
-        raise QgsProcessingException(sink.lastError())
+def write(sink: Any, fields: Any, rows: Iterable[tuple[list[Any], bytes]], feedback: Any) -> None:
+    """Writes a feature for each row of attributes and a shape, until the user cancels."""
+    for values, shape in rows:
+        if feedback.isCanceled():
+            raise Cancelled
+        feature, geometry = QgsFeature(fields), QgsGeometry()
+        geometry.fromWkb(shape)
+        geometry.convertToMultiType()
+        feature.setAttributes(values)
+        feature.setGeometry(geometry)
+        if not sink.addFeature(feature, QgsFeatureSink.FastInsert):
+            raise QgsProcessingException(sink.lastError())
 
 
 def width_of(shape: bytes) -> float:

@@ -7,7 +7,7 @@ from typing import Any
 import numpy as np
 from qgis.core import QgsProcessingOutputNumber, QgsProcessingParameterBoolean
 
-from .exact import DOUBLE, GRID_HELP, TEXT, put, width_of, with_fields
+from .exact import DOUBLE, GRID_HELP, TEXT, width_of, with_fields, write
 from .ext.overlayd.api.pieces import answered
 from .ext.overlayd.kernel import Ask, overlay
 from .ext.overlayd.kernel.overlaying import Overlay
@@ -48,14 +48,18 @@ class Pairs(TwoLayers):
         fields = with_fields(given.fields, *FIELDS)
         sink, where = self.sink(parameters, OUTPUT, context, fields, given.crs, "pairs")
         touches = rows.relations() == Relation.TOUCHES
-        areas, bounds = rows.areas().doubles(), rows.areas().bounds()
-        assert rows.outlines is not None
-        wanted = np.ones(len(rows), bool) if self.parameterAsBool(parameters, TOUCHES, context) else ~touches
-        for row in np.flatnonzero(wanted)[np.argsort(-areas[wanted], kind="stable")].tolist():
-            shape = rows.outlines.shape(row)
-            relation = Relation(int(rows.relations()[row])).name.lower()
-            values = [float(areas[row]), float(bounds[row]), width_of(shape), relation]
-            put(sink, fields, given.attributes(*rows.pairs[row].tolist()) + values, shape)
+        areas, wanted = rows.areas().doubles(), np.arange(len(rows))
+        if not self.parameterAsBool(parameters, TOUCHES, context):
+            wanted = np.flatnonzero(~touches)
+        own = rows.part(wanted[np.argsort(-areas[wanted], kind="stable")])
+        assert own.outlines is not None
+
+        def row(pair: list[int], relation: int, area: float, bound: float, shape: bytes) -> tuple[list[Any], bytes]:
+            measures = [area, bound, width_of(shape), Relation(relation).name.lower()]
+            return given.attributes(*pair) + measures, shape
+
+        columns = own.pairs, own.relations(), own.areas().doubles(), own.areas().bounds()
+        write(sink, fields, map(row, *(one.tolist() for one in columns), own.outlines.to_list()), feedback)
         found = {OVERLAPPING: int((~touches).sum()), TOUCHING: int(touches.sum()), AREA: float(areas.sum())}
         feedback.pushInfo(f"{found[OVERLAPPING]} pairs overlap, {found[TOUCHING]} touch; areas sum to {found[AREA]!r}")
         return {OUTPUT: where, **found}

@@ -6,8 +6,8 @@ from typing import Any
 
 from qgis.core import QgsFields, QgsProcessingOutputNumber, QgsProcessingParameterEnum
 
-from .exact import DOUBLE, GRID_HELP, TEXT, put, width_of, with_fields
-from .ext.overlayd.api.pieces import HOWS, pieces
+from .exact import DOUBLE, GRID_HELP, TEXT, width_of, with_fields, write
+from .ext.overlayd.api.pieces import HOWS, Piece, pieces
 from .ext.overlayd.api.pieces import Pieces as Found
 from .ext.overlayd.kernel import Ask
 from .two_layers import OUTPUT, TwoLayers
@@ -49,11 +49,14 @@ class Pieces(TwoLayers):
             fields.append(given.fields.at(at))
         fields = with_fields(fields, *FIELDS)
         sink, where = self.sink(parameters, OUTPUT, context, fields, given.crs, "pieces")
-        count, total = 0, 0.0
-        for one in found.rows():
+
+        def values(one: Piece) -> list[Any]:
             whose = "input" if one.second is None else "overlay" if one.first is None else "both"
-            values = [one.area, one.bound, width_of(one.outline), whose]
-            put(sink, fields, given.attributes(one.first, one.second)[:own] + values, one.outline)
-            count, total = count + 1, total + one.area
-        feedback.pushInfo(f"{count} pieces, areas sum to {total!r}")
-        return {OUTPUT: where, COUNT: count, AREA: total}
+            measures = [one.area, one.bound, width_of(one.outline), whose]
+            return given.attributes(one.first, one.second)[:own] + measures
+
+        rows = [*found.rows()]
+        write(sink, fields, ((values(one), one.outline) for one in rows), feedback)
+        total = sum(one.area for one in rows)
+        feedback.pushInfo(f"{len(rows)} pieces, areas sum to {total!r}")
+        return {OUTPUT: where, COUNT: len(rows), AREA: total}

@@ -129,3 +129,22 @@ def test_a_run_ends_soon_after_it_is_cancelled(qgis: Any) -> None:
     first, second = (layer([wave(2000, place + shift) for place in range(25)]) for shift in (0, 3))
     words = {"INPUT": first, "OVERLAY": second, "HOW": 1, "OUTPUT": "memory:"}
     assert cancelled_after(1, "pieces", words) < 2
+
+
+def test_writing_ends_when_it_is_cancelled(qgis: Any) -> None:
+    import processing
+    from qgis.core import QgsProcessingFeedback
+
+    class Cancels(QgsProcessingFeedback):
+        """Once the answer is there, and nothing of it is written."""
+
+        def pushInfo(self, text: str) -> None:
+            if "rounded" in text:
+                self.cancel()
+
+    own, output = layer([SQUARE, SQUARE]), {"OUTPUT": "memory:"}
+    both = {"INPUT": own, "OVERLAY": layer([BOW])} | output
+    cases = {"pairs": both, "pieces": both | {"HOW": 1}, "derive": {"LAYERS": [own], "EXPRESSION": "A"} | output,
+             "check": {"INPUT": own, "OVERLAPS": "memory:", "GAPS": "memory:"}}
+    for name, words in cases.items():
+        assert processing.run(f"exactoverlay:{name}", words, feedback=Cancels()) == {}, name

@@ -3,7 +3,6 @@
 from typing import NamedTuple
 
 import geopandas
-import numpy as np
 
 from ..kernel import Wants
 from .asking import GridSize, asked, refusals_told
@@ -29,12 +28,10 @@ def check(df: Frame, *, grid_size: GridSize = None, square_metres: bool = False,
     ask = asked(program, grid_size, unit_of(df, square_metres=square_metres), Wants.OUTLINES)
     with faults_told(df=df), refusals_told("check"):
         found = checked(column_of(df), ask, df.index)
-    laid = found.overlaps.laid
-    rows = found.overlaps.part(np.argsort(-found.overlaps.areas().doubles(), kind="stable"))
+    rows, gaps = found.overlaps, found.gaps
     assert rows.outlines is not None
     columns = {"index_left": df.index[rows.pairs[:, 0]], "index_right": df.index[rows.pairs[:, 1]],
                AREA: rows.areas().doubles(), BOUND: rows.areas().bounds()}
     overlaps = geopandas.GeoDataFrame(columns, geometry=shapes_of(rows.outlines, df.crs), crs=df.crs)
-    gaps = found.gaps.part(np.argsort(-found.gaps.areas, kind="stable"))
     holes = geopandas.GeoDataFrame({GAP: gaps.areas}, geometry=shapes_of(gaps.outlines, df.crs), crs=df.crs)
-    return Checked(with_told(overlaps, laid, df=df), with_told(holes, laid, df=df), found.closes)
+    return Checked(with_told(overlaps, rows.laid, df=df), with_told(holes, rows.laid, df=df), found.closes)

@@ -61,7 +61,7 @@ class Pieces:
 
 @dataclass(frozen=True)
 class Checked:
-    """The overlaps and the gaps of a map, with outlines, and whether all areas sum up."""
+    """The overlaps and the gaps of a map, with outlines, the largest first, and whether all areas sum up."""
 
     overlaps: Overlay
     gaps: Polygons
@@ -99,6 +99,8 @@ def checked(column: Column, ask: Ask, names: Sequence[object]) -> Checked:
     """What is wrong in a map."""
     found = check(column, ask.stage(0, 0.8, ask.wants))
     answered(found.unanswered, names, names)
-    rows = overlay_within(found.own.laid, found.overlaps.pairs, ask.stage(0.8, 1, ask.wants))
+    rows = answered(overlay_within(found.own.laid, found.overlaps.pairs, ask.stage(0.8, 1, ask.wants)), names, names)
     assert found.gaps is not None
-    return Checked(answered(rows, names, names), found.gaps, found.audit.closes())
+    overlaps, gaps = (of.part(np.argsort(-areas, kind="stable"))
+                      for of, areas in ((rows, rows.areas().doubles()), (found.gaps, found.gaps.areas)))
+    return Checked(overlaps, gaps, found.audit.closes())
