@@ -37,12 +37,9 @@ class Endings(InFolder):
         answers = self.program("answers", listed)
         drawing = self.program("drawing", {**listed, "EDGES asked 16": MANY, "EDGES": "edges 0\n", "": "ok 1\n"})
         points = self.file("points.txt", "1 1\n" * 4000)
-        return [
-            ["import", str(map_file), "--split"],
-            ["dump", str(store), "--program", str(many)],
-            ["which", "--store", str(store), "--program", str(answers), "--points", str(points)],
-            *([name, "--store", str(store), "--program", str(drawing)] for name in ("rings", "export", "svg")),
-        ]
+        return [["import", str(map_file), "--split"], ["dump", str(store), "--program", str(many)],
+                ["which", "--store", str(store), "--program", str(answers), "--points", str(points)],
+                *([name, "--store", str(store), "--program", str(drawing)] for name in ("rings", "export", "svg"))]
 
     def program(self, name: str, answers: dict[str, str]) -> pathlib.Path:
         return self.file(name, PROGRAM.format(sys.executable, answers), 0o700)

@@ -222,13 +222,11 @@ class Processes(unittest.TestCase):
                 assert (rest.status, rest.read()) == (206, wanted[100:])
 
     def test_words(self) -> None:
-        for line in (
-            "--store map.db --writable --host 0.0.0.0", "--writable --host ::", "", "--create",
-            "--store map.db --create", "--writable --host map.example.org", "--colour",
-            "--store map.db --base map.example.org", "--store map.db --base http://[", "--store map.db --base http://",
-            "--store map.db --base https://map.example.org:port", "--store map.db --workers 9",
-            "--store map.db --workers 0",
-        ):
+        for line in ("--store map.db --writable --host 0.0.0.0", "--writable --host ::", "", "--create",
+                     "--store map.db --create", "--writable --host map.example.org", "--colour",
+                     "--store map.db --base map.example.org", "--store map.db --base http://[",
+                     "--store map.db --base http://", "--store map.db --base https://map.example.org:port",
+                     "--store map.db --workers 9", "--store map.db --workers 0"):
             with running(*line.split()) as (run, _):
                 status, text = self.ended(run)
                 assert (status, "Traceback" in text) == (2, False), line

@@ -71,10 +71,8 @@ class Rescues(unittest.TestCase):
         self.server = self.enterContext(Server(self.path, create=True, sessions=4, program=program, timeout=60))
         scratch = self.enterContext(Scratch(program, 60))
         self.ended, self.reasons = threading.Event(), list[str]()
-        self.store = LayerStore(
-            self.server, scratch, testing.map_scale(), version=0, kept=True, writable=True,
-            rescue=Rescue(self.path, program, self.end),
-        )
+        self.store = LayerStore(self.server, scratch, testing.map_scale(), version=0, kept=True, writable=True,
+                                rescue=Rescue(self.path, program, self.end))
         self.addCleanup(self.store.close)
         self.client = Client(of_store(self.store))
         self.store.change([f"PUT A {SQUARE}"])

@@ -97,9 +97,8 @@ class Places(InFolder):
     def test_the_file_says_the_same(self) -> None:
         file = self.file("plan.scale.json", self.scale.text())
         assert scales.read(file) == self.scale
-        assert json.loads(file.read_text()) == {
-            "title": "Plan", "factor": 10, "factor_y": 4, "origin": [1000, -0.5], "unit": "ft", "crs": "EPSG:2263",
-            "digits": 5}
+        assert json.loads(file.read_text()) == {"title": "Plan", "factor": 10, "factor_y": 4, "origin": [1000, -0.5],
+                                                "unit": "ft", "crs": "EPSG:2263", "digits": 5}
 
     def test_a_number_that_a_double_would_change_is_a_text(self) -> None:
         origin = Fraction("0.12345678901234567891"), Fraction(2)

@@ -60,10 +60,8 @@ def meets(rings: list[list[Place]], box: Box) -> bool:
 class Shapes(unittest.TestCase):
     def test_a_box_that_touches_in_a_point_meets(self) -> None:
         feature = Feature(1, [[(0, 0, 1), (3, 1, 1), (0, 2, 1)]], testing.map_scale())
-        for box, right in (
-            ("3 1 5 5", True), ("301/100 1 5 5", False), ("-1 -1 0 0", True), ("3/2 3/2 5 5", True),
-            ("151/100 3/2 5 5", False), ("1 1 1 1", True), ("1 1/3 1 1/3", True), ("-9 -9 9 9", True),
-        ):
+        for box, right in (("3 1 5 5", True), ("301/100 1 5 5", False), ("-1 -1 0 0", True), ("3/2 3/2 5 5", True),
+                           ("151/100 3/2 5 5", False), ("1 1 1 1", True), ("1 1/3 1 1/3", True), ("-9 -9 9 9", True)):
             assert feature.meets(Box(*map(Fraction, box.split()))) == right, box
 
     def test_a_box_within_a_hole_meets_nothing(self) -> None:
@@ -91,15 +89,11 @@ class Shapes(unittest.TestCase):
 
 class Numbers(unittest.TestCase):
     def test_numbers_are_bounded(self) -> None:
-        for text, value in (
-            ("1", 1), ("-0.5", Fraction(-1, 2)), ("1e3", 1000), ("5/3", Fraction(5, 3)), (".5", Fraction(1, 2)),
-            ("2.5e-2", Fraction(1, 40)), ("+7", 7), ("-1/4", Fraction(-1, 4)),
-        ):
+        for text, value in (("1", 1), ("-0.5", Fraction(-1, 2)), ("1e3", 1000), ("5/3", Fraction(5, 3)),
+                            (".5", Fraction(1, 2)), ("2.5e-2", Fraction(1, 40)), ("+7", 7), ("-1/4", Fraction(-1, 4))):
             assert exact(text) == value, text
-        bad: tuple[object, ...] = (
-            "", ".", "1e999", "1e99999999", "1/0", "1//2", "nan", "inf", "0x10", "1" * 21, "1_0", "1/3.5", "e5", "٣",
-            True, None, [1],
-        )
+        bad: tuple[object, ...] = ("", ".", "1e999", "1e99999999", "1/0", "1//2", "nan", "inf", "0x10", "1" * 21, "1_0",
+                                   "1/3.5", "e5", "٣", True, None, [1])
         for given in bad:
             self.assertRaises(ValueError, exact, given)
 

@@ -80,9 +80,8 @@ class OverTheModel(InFolder):
             [[[500.1, -19.9667], [500.3, -19.9], [500.1, -19.8333], [500.1, -19.9667]]]]})
         assert second["properties"] == \
             {"layer": "W", "expression": None, "version": 4, "area": 0.08, "area_exact": "2/25"}
-        assert second["geometry"]["coordinates"] == [
-            [[[500, -20], [500.2, -19.8], [500, -19.6], [500, -20]]],
-            [[[500.2, -19.8], [500.4, -20], [500.4, -19.6], [500.2, -19.8]]]]
+        assert second["geometry"]["coordinates"] == [[[[500, -20], [500.2, -19.8], [500, -19.6], [500, -20]]],
+                                                     [[[500.2, -19.8], [500.4, -20], [500.4, -19.6], [500.2, -19.8]]]]
         value = json.loads(self.asked(export, BOW + CUT, "--layer", "W", "--parts")[1])
         assert [(one["geometry"]["type"], one["properties"]["area_exact"]) for one in value["features"]] == \
             [("Polygon", "1/25"), ("Polygon", "1/25")]

@@ -169,11 +169,9 @@ class OfAnUnknownSystem(FrontCase):
 class ByPyproj(unittest.TestCase):
     def test_places_are_those_of_gdal(self) -> None:
         """By GDAL 3.6.2: gdaltransform -s_srs .. -t_srs EPSG:4326, x and y of the system in the order east, north."""
-        for crs, place, wanted in (
-            ("EPSG:30169", (-6000.0, -35000.0), (139.76380208249523, 35.68771508765569)),
-            ("EPSG:32119", (640000.0, 230000.0), (-78.66357278493733, 35.82287411802312)),
-            ("EPSG:25832", (500000.0, 5500000.0), (9.0, 49.65254292355683)),
-        ):
+        for crs, place, wanted in (("EPSG:30169", (-6000.0, -35000.0), (139.76380208249523, 35.68771508765569)),
+                                   ("EPSG:32119", (640000.0, 230000.0), (-78.66357278493733, 35.82287411802312)),
+                                   ("EPSG:25832", (500000.0, 5500000.0), (9.0, 49.65254292355683))):
             projection = by_pyproj(crs)
             [x], [y] = projection.forward([place[0]], [place[1]])
             self.assertAlmostEqual(x, wanted[0], 9)

@@ -99,26 +99,21 @@ class Client:
     def __init__(self, front: Front) -> None:
         self.front = front
 
-    def ask(
-        self, path: str, method: str = "GET", body: object = None, headers: Mapping[str, str] | None = None
-    ) -> Told:
+    def ask(self, path: str, method: str = "GET", body: object = None,
+            headers: Mapping[str, str] | None = None) -> Told:
         """body: bytes, or what is sent as JSON. headers: as WSGI has them; one that is '' is left out."""
         parts = urllib.parse.urlsplit(path)
         data = body if isinstance(body, bytes) else b"" if body is None else json.dumps(body).encode()
-        environ = {
-            "REQUEST_METHOD": method, "PATH_INFO": urllib.parse.unquote(parts.path), "QUERY_STRING": parts.query,
-            "HTTP_HOST": HOST, "wsgi.url_scheme": "http", "wsgi.input": io.BytesIO(data),
-        }
+        environ = {"REQUEST_METHOD": method, "PATH_INFO": urllib.parse.unquote(parts.path), "QUERY_STRING": parts.query,
+                   "HTTP_HOST": HOST, "wsgi.url_scheme": "http", "wsgi.input": io.BytesIO(data)}
         if body is not None:
             environ |= {"CONTENT_TYPE": "application/json", "CONTENT_LENGTH": str(len(data))}
         environ = {key: value for key, value in {**environ, **(headers or {})}.items() if value != ""}
         told: list[tuple[str, dict[str, str]]] = []
         made = b"".join(self.front(environ, lambda status, lines: told.append((status, dict(lines)))))
         status, lines = told[0]
-        return Told(
-            int(status.split()[0]), lines,
-            json.loads(made) if "json" in lines.get("Content-Type", "") and made else made,
-        )
+        return Told(int(status.split()[0]), lines,
+                    json.loads(made) if "json" in lines.get("Content-Type", "") and made else made)
 
     def get(self, path: str) -> Any:
         """The value of an answer of status 200."""
@@ -155,9 +150,8 @@ class FrontCase(unittest.TestCase):
         if cls.lines:
             with cls.server.session() as one:
                 version = one.batch(cls.lines)
-        cls.store = LayerStore(
-            cls.server, scratch, map_scale(**cls.scale), version=version, kept=False, writable=cls.writable
-        )
+        cls.store = LayerStore(cls.server, scratch, map_scale(**cls.scale), version=version, kept=False,
+                               writable=cls.writable)
         cls.addClassCleanup(cls.store.close)
         cls.front = of_store(cls.store, systems=Systems(cls.store.scale, cls.projection))
         cls.client = Client(cls.front)
