@@ -5,7 +5,6 @@ it is run, as '# overlayd WORD..', and names the script again; without such a li
 run in the order of their names, in one folder, so that one can open a store that another has made. A script without
 expected replies is run by another one's words."""
 
-import gzip
 import os
 import pathlib
 import re
@@ -20,7 +19,7 @@ from typing import Any
 import pytest
 
 from overlayd_lab import TOP
-from overlayd_lab.trials.old_files import RELEASED
+from overlayd_lab.trials import old_files
 
 EXAMPLES = TOP / "examples"
 SECONDS = 110
@@ -447,18 +446,6 @@ def test_a_tile_of_other_pieces(program: Program) -> None:
     assert program.run("--store", "tiles") == (1, "", "error 33 damaged 8\n")
 
 
-def old_file() -> bytes:
-    """A file of format 1 with A and I = A, and in block 2 the tile of I in column 8 of 17."""
-    ends = [(0, 0, 0, 10), (0, 0, 10, 0), (0, 10, 10, 10), (10, 0, 10, 10)]
-    pieces = (struct.pack(">4ib2ib2i", *end, 0, *end[:2], 0, *end[2:]) for end in ends)
-    tile = struct.pack(">bbI", 0, 8, 4) + b"".join(pieces)
-    record = struct.pack(">HH10i", 1, 5, 0, 0, 10, 0, 10, 10, 0, 10, 0, 0)
-    catalog = struct.pack(">H3sQI3sQI", 2, b"\1A\0", 3, len(record), b"\1I\1", 4, 1)
-    catalog += struct.pack(">8xbQI8x", 1, 2, len(tile))
-    blocks = [b"", slot(1, 2, 5, len(catalog), written=1), tile, record, b"A", catalog]
-    return b"".join(block.ljust(BLOCK, b"\0") for block in blocks)
-
-
 def put(data: bytes, at: int, new: bytes) -> bytes:
     return data[:at] + new + data[at + len(new) :]
 
@@ -473,7 +460,7 @@ def newest(data: bytes) -> tuple[int, int]:
 def test_files_of_format_1(program: Program) -> None:
     """They open with their layers, whatever stands for their tiles; these are built anew, and what is committed then is
     of format 2. One is a store of the program that wrote format 1."""
-    old, released = old_file(), gzip.decompress(RELEASED.read_bytes())
+    old, released = old_files.in_six_blocks(), old_files.released()
     entry = 5 * BLOCK + 48
     a, b = ("MULTIPOLYGON (((0 0, 10 0, 10 10, 0 10, 0 0)))", "MULTIPOLYGON (((5 5, 15 5, 15 15, 5 15, 5 5)))")
     one = f"layers 2\nA {a}\nI = A\n", "0 0 1 0 10 1\n0 0 1 10 0 1\n0 10 1 10 10 1\n10 0 1 10 10 1\n"

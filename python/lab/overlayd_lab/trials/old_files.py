@@ -1,4 +1,4 @@
-"""A module for crashes.py and damages.py: two files of format 1, whose 17 columns are twice as wide as ours.
+"""A module for crashes.py and tests: two files of format 1, whose 17 columns are twice as wide as ours.
 
 One is written here byte by byte, as docs/FORMAT.md has it, with a closed slot that opening completes. The other was
 written by the program when its files were of that format."""
@@ -43,22 +43,6 @@ def in_six_blocks() -> bytes:
 def released() -> bytes:
     """Version 3: the squares A and B, I = A & B, and its tiles."""
     return gzip.decompress(RELEASED.read_bytes())
-
-
-def tiles_of(data: bytes) -> list[tuple[int, int]]:
-    """Where the tiles lie that a root of format 1 names, which nobody reads: offset and length of each."""
-    root = read_store.find_root(data)
-    if root.format != read_store.OLD_FORMAT:
-        return []
-    listing = read_store.Bytes(data[root.catalog.block * BLOCK :][: root.catalog.size])
-    found = []
-    for _ in range(listing.number(2)):
-        listing.take(listing.number(1))
-        is_derived = listing.one_of(0, 1)
-        listing.extent()
-        entries = range(read_store.OLD_COLUMNS if is_derived else 0)
-        found += [listing.extent() for _ in entries if listing.one_of(0, 1)]
-    return [(one.block * BLOCK, one.size) for one in found]
 
 
 # The files by their names.
