@@ -10,16 +10,17 @@ use Rattle.block_reading.specs.declared.fault.BlockFault.{BlockFault}
 use Rattle.block_reading.specs.declared.head.Head.{Head}
 use Rattle.block_reading.specs.declared.job.Job.{Job}
 use Rattle.block_reading.specs.declared.job.Job.TheVariants.{Pair, Cells, Locate}
-use Rattle.feature_windows.specs.Sums.{AreFoundIn}
-use Rattle.feature_windows.specs.Windows.{AreWindows}
 use Rattle.feature_windows.specs.declared.found.Found.{Found}
 use Rattle.feature_windows.specs.declared.window.Near.{Near}
-use Rattle.feature_windows.specs.declared.window.Window.{Window}
 use Rattle.feature_jobs.specs.Bytes.{small}
+use Rattle.feature_jobs.specs.Expressions.{AreAsked}
 use Rattle.feature_jobs.specs.Fault.{code_of}
+use Rattle.feature_jobs.specs.Findings.{IsFoundOf}
+use Rattle.feature_jobs.specs.Pairs.{IsPair}
 use Rattle.feature_jobs.specs.Reply.{Reply, refused, no_job}
-use Rattle.feature_jobs.specs.Rows.{point_rows, rows_of, AreNear, ArePositive, IsFaultRow, HasFound}
+use Rattle.feature_jobs.specs.Rows.{point_rows, rows_of, AreNear, ArePositive, IsFaultRow, HasFound, HasPair}
 use Rattle.feature_jobs.specs.declared.fault.JobFault.{JobFault}
+use Rattle.feature_jobs.specs.declared.pair.PairFound.{PairFound}
 
 -- a block is the one that some bytes spell
 abbrev pub IsSpelled : Block → Type 0
@@ -34,31 +35,32 @@ job_number None = no_job
 abbrev pub near_of : Member → Near
 near_of m = record { feature = m.feature; layer = m.layer }
 
--- this was found of an expression, over the layers before the core's own one, in windows that make up a core and show the
--- features that count for its layers, seen from the core's low corner
-pub record IsFoundOf (features : List (List (List WholePoint))) (core : Core) (members : List Member) (steps : Steps) (found : Found) : Type 0 where
-  pub windows : List Window
-  pub are : AreWindows features (map near_of members) (steps.bases - 1) core windows
-  pub in_all : AreFoundIn windows steps core.low_x core.low_y found
+-- bytes are a row of a core: of a fault, or of what was found of an expression over the layers before the core's own one
+pub data IsCellsRow (features : List (List (List WholePoint))) (asked : Steps) (core : Core) (members : List Member) (row : List ℕ) : Type 0 where
+  faulty : IsFaultRow 48 row → IsCellsRow features asked core members row
+  of_found : (found : Found) → IsFoundOf features (map near_of members) (asked.bases - 1) core asked found → HasFound found row
+      → IsCellsRow features asked core members row
 
--- it was found of some expression
-abbrev pub WasFound : List (List (List WholePoint)) → Core → List Member → Found → Type 0
-WasFound features core members found = (steps : Steps) × IsFoundOf features core members steps found
+-- bytes are a row of a pair: of a fault, or of what was found of its two features
+pub data IsPairRow (features : List (List (List WholePoint))) (a b : ℕ) (row : List ℕ) : Type 0 where
+  without : IsFaultRow 96 row → IsPairRow features a b row
+  of_pair : (one : PairFound) → IsPair features a b one → HasPair one row → IsPairRow features a b row
 
--- bytes are a row of a core: of a fault, or of what was found
-pub data IsCellsRow (features : List (List (List WholePoint))) (core : Core) (members : List Member) (row : List ℕ) : Type 0 where
-  faulty : IsFaultRow 48 row → IsCellsRow features core members row
-  of_found : (found : Found) → WasFound features core members found → HasFound found row → IsCellsRow features core members row
-
--- bytes are what answers a job over features
-abbrev pub IsRow : List (List (List WholePoint)) → Job → List ℕ → Type 0
-IsRow features (Locate feature points) row = AreNear features → ArePositive points → row ≡ point_rows (slice_get features feature) points
-IsRow features (Cells core members) row = IsCellsRow features core members row
-IsRow features (Pair a b) row = Unit {0}
+-- bytes are what answers a job over features, where cores are asked for an expression
+abbrev pub IsRow : List (List (List WholePoint)) → Steps → Job → List ℕ → Type 0
+IsRow features asked (Locate feature points) row = AreNear features → ArePositive points → row ≡ point_rows (slice_get features feature) points
+IsRow features asked (Cells core members) row = IsCellsRow features asked core members row
+IsRow features asked (Pair a b) row = IsPairRow features a b row
 
 -- bytes are what answers jobs, in order
-abbrev pub AreRows : List (List (List WholePoint)) → List Job → List ℕ → Type 0
-AreRows features jobs bytes = (rows : List (List ℕ)) × AllZip (IsRow features) jobs rows × (bytes ≡ concat rows)
+abbrev pub AreRows : List (List (List WholePoint)) → Steps → List Job → List ℕ → Type 0
+AreRows features asked jobs bytes = (rows : List (List ℕ)) × AllZip (IsRow features asked) jobs rows × (bytes ≡ concat rows)
+
+-- bytes are what answers the jobs of a block, whose own expression is asked of cores
+pub record AreRowsOf (block : Block) (bytes : List ℕ) : Type 0 where
+  pub asked : Steps
+  pub spelled : block.head.kind ≡ 1 → AreAsked block.expression block.head.layers asked
+  pub rows : AreRows (features_of block.shapes) asked block.jobs bytes
 
 -- whether rows have rings
 abbrev pub has_rings : Head → Bool
@@ -70,7 +72,7 @@ pub record IsAnswered (block : Block) (reply : Reply) : Type 0 where
   pub flags : reply.flags ≡ block.head.flags
   pub fault : reply.fault ≡ 0
   pub job : reply.job ≡ 0
-  pub rows : has_rings block.head ≡ false → AreRows (features_of block.shapes) block.jobs reply.rows
+  pub rows : has_rings block.head ≡ false → AreRowsOf block reply.rows
   pub no_rings : has_rings block.head ≡ false → reply.rings ≡ []
   pub no_corners : has_rings block.head ≡ false → reply.corners ≡ []
 

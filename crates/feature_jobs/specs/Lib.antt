@@ -1,5 +1,11 @@
 pub mod Bytes
 pub mod Fault
 pub mod Reply
+pub mod Expressions
+pub mod Corners
+pub mod Findings
+pub mod Pairs
+pub mod Known
+pub mod Shared
 pub mod Rows
 pub mod Answers

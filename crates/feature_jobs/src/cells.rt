@@ -1,6 +1,7 @@
 //! Cells of an expression.
-ghost use Rattle.std.specs.Prelude.{◌≡◌, map, IfOk};
-ghost use Rattle.feature_jobs.specs.Answers.{near_of, IsFoundOf};
+ghost use Rattle.std.specs.Prelude.{◌≡◌, ◌-◌, map, IfOk};
+ghost use Rattle.feature_jobs.specs.Answers.{near_of};
+ghost use Rattle.feature_jobs.specs.Findings.{IsFoundOf};
 
 use crate::fault::JobFault;
 use crate::outlining::outline_in;
@@ -35,7 +36,8 @@ pub(crate) fn cells(
     limit: usize,
     wants: bool,
 ) -> Result<(Found, Option<Outline>), JobFault>
-    ensures { IfOk result (λ both. IsFoundOf features.now core.now members.now steps.now both.0) }
+    ensures { IfOk result
+        (λ both. IsFoundOf features.now (map near_of members.now) (steps.now.bases - 1) core.now steps.now both.0) }
 {
     let near = nears(alloc, members)?;
     let count = usize::from(steps.bases()).saturating_sub(1);

@@ -1,11 +1,17 @@
 //! What is known of a feature before any job: its area, and the box of its boundary.
+ghost use Rattle.std.specs.Prelude.{◌≡◌, true, Some, IfOk, slice_get};
+ghost use Rattle.feature_jobs.specs.Expressions.{AreInCore, of_first};
+ghost use Rattle.feature_jobs.specs.Known.{AreKnown, IsKnownAs};
+ghost use Rattle.feature_jobs.specs.Pairs.{IsAreaOf, HasNoPoint, nothing_found};
+ghost use Rattle.feature_jobs.specs.declared.known.Knowing.TheVariants as knowing;
+
 use crate::expressions::of_two;
 use crate::fault::JobFault;
 use crate::simple_rings::simple;
 use block_reading::Core;
 use exact_point::HPoint;
 use feature_windows::{
-    Features, Found, Near, Window, around, found_in, is_nothing, nothing, pieces_in, windows,
+    Features, Found, Near, Window, around, found_in, nothing, pieces_in, windows,
 };
 use layer_expr::StepList;
 use std::alloc::Global;
@@ -28,7 +34,9 @@ pub(crate) enum Knowing {
 }
 
 /// Nothing found in no window.
-pub(crate) fn nothing_found() -> Found {
+pub(crate) fn nothing_found() -> Found
+    ensures { result ≡ nothing_found }
+{
     Found {
         twice: 0,
         bound: 0,
@@ -89,6 +97,19 @@ fn extent_in(alloc: Global, list: &[Window], own: &StepList) -> Result<Core, Job
     Ok(extent)
 }
 
+/// Whether a feature has no point.
+fn has_no_point(features: &Features, feature: usize) -> bool
+    ensures { result ≡ true → HasNoPoint features.now feature }
+{
+    match features.rings_of(feature) {
+        Some(rings) => {
+            let (_, points) = rings.lent();
+            points.is_empty()
+        }
+        None => true,
+    }
+}
+
 /// What is known of a feature; `own` says that it is the first of two layers, within the core.
 fn known_of(
     alloc: Global,
@@ -96,9 +117,12 @@ fn known_of(
     feature: usize,
     own: &StepList,
     limit: usize,
-) -> Result<Known, JobFault> {
+) -> Result<Known, JobFault>
+    requires { AreInCore of_first own.now }
+    ensures { IfOk result (λ known. IsAreaOf features.now feature known.found) }
+{
     let core = features.extent_of(feature);
-    if is_nothing(&core) {
+    if has_no_point(features, feature) {
         return Ok(Known {
             found: nothing_found(),
             extent: nothing(),
@@ -129,26 +153,52 @@ fn known_of(
     })
 }
 
+/// The steps of the first of two layers within the core.
+fn own_steps(alloc: Global) -> Result<StepList, JobFault>
+    ensures { IfOk result (λ steps. AreInCore of_first steps) }
+{
+    of_two(alloc, b"A & Core")
+}
+
+/// What is known of a feature, or why nothing is.
+fn knowing_of(
+    alloc: Global,
+    features: &Features,
+    feature: usize,
+    own: &StepList,
+    limit: usize,
+) -> Result<Knowing, JobFault>
+    requires { AreInCore of_first own.now }
+    ensures { IfOk result (λ one. IsKnownAs features.now feature one) }
+{
+    match known_of(alloc, features, feature, own, limit) {
+        Ok(one) => Ok(Knowing::Known(one)),
+        Err(JobFault::OutOfMemory) => Err(JobFault::OutOfMemory),
+        Err(fault) => Ok(Knowing::Fault(fault)),
+    }
+}
+
 /// What is known of all features.
 pub(crate) fn all_known(
     alloc: Global,
     features: &Features,
     limit: usize,
-) -> Result<Vec<Knowing>, JobFault> {
-    let own = of_two(alloc, b"A & Core")?;
+) -> Result<Vec<Knowing>, JobFault>
+    ensures { IfOk result (λ known. AreKnown features.now known.items) }
+{
+    let own = own_steps(alloc)?;
     let mut list = Vec::new(alloc);
     for feature in 0..features.count() {
-        match known_of(alloc, features, feature, &own, limit) {
-            Ok(one) => list.push(Knowing::Known(one))?,
-            Err(JobFault::OutOfMemory) => return Err(JobFault::OutOfMemory),
-            Err(fault) => list.push(Knowing::Fault(fault))?,
-        }
+        let one = knowing_of(alloc, features, feature, &own, limit)?;
+        list.push(one)?;
     }
     Ok(list)
 }
 
 /// What is known of one of them.
-pub(crate) fn known_at(list: &[Knowing], feature: usize) -> Result<Known, JobFault> {
+pub(crate) fn known_at(list: &[Knowing], feature: usize) -> Result<Known, JobFault>
+    ensures { IfOk result (λ known. slice_get list.now feature ≡ Some (knowing.Known known)) }
+{
     match list.get(feature) {
         Some(Knowing::Known(one)) => Ok(*one),
         Some(Knowing::Fault(fault)) => Err(*fault),

@@ -3,9 +3,11 @@
 
 mod bytes;
 mod cells;
+mod corner_areas;
 mod dealing;
 mod expressions;
 mod fault;
+mod ground;
 mod known;
 mod meeting;
 mod outlining;

@@ -1,9 +1,15 @@
 //! Pairs of features.
+ghost use Rattle.std.specs.Prelude.{◌≡◌, IfOk};
+ghost use Rattle.feature_jobs.specs.Pairs.{IsApart, IsInner, IsTold, IsRelated, ArePairSteps};
+ghost use Rattle.feature_jobs.specs.declared.relation.Relation.TheVariants as relations;
+
 use crate::fault::JobFault;
 use crate::known::{Known, nothing_found};
 use crate::meeting::{Meeting, met_by_steps};
 use crate::outlining::outline_in;
-use crate::relation::{Both, PairSteps, Relation, are_apart, relation_within, touch};
+use crate::relation::{
+    Both, PairSteps, Relation, are_apart, is_part, relation_within, touch, touching,
+};
 use block_reading::Core;
 use boundary_outlines::Outline;
 use feature_windows::{Features, Found, Near, Window, common, found_in, nothing, windows};
@@ -24,7 +30,11 @@ pub(crate) struct PairFound {
 }
 
 /// A pair without a common point.
-fn apart_pair(a: &Known, b: &Known) -> PairFound {
+fn apart_pair(a: &Known, b: &Known) -> PairFound
+    ensures first { result.a ≡ a.now.found }
+    ensures second { result.b ≡ b.now.found }
+    ensures apart { IsApart result }
+{
     PairFound {
         relation: Relation::Disjoint,
         is_proper: false,
@@ -37,7 +47,11 @@ fn apart_pair(a: &Known, b: &Known) -> PairFound {
 }
 
 /// A pair of which one has all of the other in its interior.
-fn inner_pair(relation: Relation, a: &Known, b: &Known, less: &Found, core: Core) -> PairFound {
+fn inner_pair(relation: Relation, a: &Known, b: &Known, less: &Found, core: Core) -> PairFound
+    ensures first { result.a ≡ a.now.found }
+    ensures second { result.b ≡ b.now.found }
+    ensures inner { IsInner relation less.now result }
+{
     PairFound {
         relation,
         is_proper: true,
@@ -71,20 +85,16 @@ fn related(
     limit: usize,
     list: &[Window],
     met: Meeting,
-) -> Result<(Relation, bool), JobFault> {
+) -> Result<(Relation, bool), JobFault>
+    ensures { IfOk result (λ told. IsRelated features.now both.now.near.now steps.now
+        both.now.a.now.found both.now.b.now.found both.now.found.now told.0 told.1) }
+{
     if both.found.pieces == 0 {
         let is_met = touch_unless(alloc, met, list, steps)?;
-        return Ok((
-            if is_met {
-                Relation::Touches
-            } else {
-                Relation::Disjoint
-            },
-            false,
-        ));
+        return Ok((touching(is_met), false));
     }
     let relation = relation_within(alloc, features, both, steps, limit)?;
-    if relation == Relation::Within || relation == Relation::Contains {
+    if is_part(relation) {
         let is_met = touch_unless(alloc, met, list, steps)?;
         return Ok((relation, !is_met));
     }
@@ -103,7 +113,11 @@ fn by_passes(
     wants: bool,
     core: Core,
     met: Meeting,
-) -> Result<PairFound, JobFault> {
+) -> Result<PairFound, JobFault>
+    ensures first { IfOk result (λ one. one.a ≡ a.now.found) }
+    ensures second { IfOk result (λ one. one.b ≡ b.now.found) }
+    ensures told { IfOk result (λ one. ArePairSteps steps.now → IsTold features.now near.now one) }
+{
     let list = windows(alloc, features, near, 2, &core, limit)?;
     let found = found_in(alloc, &list, &steps.both, core.low_x, core.low_y)?;
     let both = Both {
@@ -140,7 +154,11 @@ pub(crate) fn pair(
     steps: &PairSteps,
     limit: usize,
     wants: bool,
-) -> Result<PairFound, JobFault> {
+) -> Result<PairFound, JobFault>
+    ensures first { IfOk result (λ one. one.a ≡ a.now.found) }
+    ensures second { IfOk result (λ one. one.b ≡ b.now.found) }
+    ensures told { IfOk result (λ one. ArePairSteps steps.now → IsTold features.now near.now one) }
+{
     if are_apart(a, b) {
         return Ok(apart_pair(a, b));
     }

@@ -1,6 +1,11 @@
 //! How two features lie to each other, by the boundaries of layers: their interiors meet exactly if A & B has a boundary,
 //! and one has a part off the other exactly if their difference has one, as it has where A & B is less; they touch if the
 //! interiors do not meet and some point is on both boundaries.
+ghost use Rattle.std.specs.Prelude.{◌≡◌, ◌≤ℤ◌, pos, [], true, false, All, IfOk, IfSome};
+ghost use Rattle.feature_jobs.specs.Findings.{HasNoPiece};
+ghost use Rattle.feature_jobs.specs.Pairs.{ArePairSteps, HasNoRest, IsByRests, relation_by, touching, is_part};
+ghost use Rattle.feature_jobs.specs.Rows.{relation_number};
+
 use crate::expressions::of_two;
 use crate::fault::JobFault;
 use crate::known::Known;
@@ -26,7 +31,9 @@ pub(crate) enum Relation {
 
 impl Relation {
     /// The number of a relation.
-    pub fn number(self) -> u32 {
+    pub fn number(self) -> u32
+        ensures { result ≡ relation_number self }
+    {
         match self {
             Relation::Disjoint => 0,
             Relation::Touches => 1,
@@ -49,7 +56,9 @@ pub(crate) struct PairSteps {
 }
 
 /// Those expressions.
-pub(crate) fn pair_steps(alloc: Global) -> Result<PairSteps, JobFault> {
+pub(crate) fn pair_steps(alloc: Global) -> Result<PairSteps, JobFault>
+    ensures { IfOk result ArePairSteps }
+{
     Ok(PairSteps {
         both: of_two(alloc, b"A & B & Core")?,
         first: of_two(alloc, b"A")?,
@@ -126,11 +135,20 @@ pub(crate) fn touch(alloc: Global, list: &[Window], steps: &PairSteps) -> Result
     Ok(false)
 }
 
+/// Whether there are no pieces.
+fn are_none(pieces: &[SidedPiece]) -> bool
+    ensures { result ≡ true → pieces.now ≡ [] }
+{
+    pieces.is_empty()
+}
+
 /// Whether an expression has a part in some windows.
-fn has_part(alloc: Global, list: &[Window], steps: &StepList) -> Result<bool, JobFault> {
+fn has_part(alloc: Global, list: &[Window], steps: &StepList) -> Result<bool, JobFault>
+    ensures { IfOk result (λ has. has ≡ false → All (HasNoPiece steps.now) list.now) }
+{
     for window in list {
         let pieces = pieces_in(alloc, window, steps)?;
-        if !pieces.is_empty() {
+        if !are_none(&pieces) {
             return Ok(true);
         }
     }
@@ -148,38 +166,78 @@ pub(crate) struct Both<'a> {
 
 /// Whether an area is less than another by more than both may be off; none where that is not known. The first is that of a
 /// part of the second: so where both are exact and equal, the part is all of it.
-fn is_less(less: &Found, whole: &Found) -> Option<bool> {
+fn is_less(less: &Found, whole: &Found) -> Option<bool>
+    ensures less { IfSome result (λ is. is ≡ false → less.now.bound ≡ pos 0) }
+    ensures whole { IfSome result (λ is. is ≡ false → whole.now.bound ≡ pos 0) }
+    ensures all { IfSome result (λ is. is ≡ false → whole.now.twice ≤ℤ less.now.twice) }
+{
+    if less.bound == 0 && whole.bound == 0 {
+        return Some(less.twice < whole.twice);
+    }
     let off = less.bound.saturating_add(whole.bound);
     if less.twice.saturating_add(off) < whole.twice {
         return Some(true);
     }
-    if off == 0 { Some(false) } else { None }
+    None
 }
 
-/// Whether the first of two features has a part off the second, by the boxes of their boundaries or by areas, or else by a
-/// pass.
+/// Whether one of two features has a part off the other, by the boxes of their boundaries or by areas, or else by a pass
+/// for what it alone has.
 fn has_rest(
     alloc: Global,
     features: &Features,
-    both: &Both,
-    is_first: bool,
-    steps: &PairSteps,
+    near: &[Near; 2],
+    one: &Known,
+    other: &Known,
+    alone: &StepList,
+    found: &Found,
     limit: usize,
-) -> Result<bool, JobFault> {
-    let (one, other, alone) = if is_first {
-        (both.a, both.b, &steps.first_alone)
-    } else {
-        (both.b, both.a, &steps.second_alone)
-    };
+) -> Result<bool, JobFault>
+    ensures { IfOk result
+        (λ has. has ≡ false → HasNoRest features.now near.now alone.now one.now.found found.now) }
+{
     if !is_within(&one.extent, &other.extent) {
         return Ok(true);
     }
-    if let Some(is_part) = is_less(both.found, &one.found) {
+    if let Some(is_part) = is_less(found, &one.found) {
         return Ok(is_part);
     }
-    let near = both.near;
     let list = windows(alloc, features, near, 2, &one.extent, limit)?;
     has_part(alloc, &list, alone)
+}
+
+/// The relation of two features whose interiors meet, by whether the first has a part off the second, and the second off
+/// the first.
+fn relation_by(first: bool, second: bool) -> Relation
+    ensures { result ≡ relation_by first second }
+{
+    match (first, second) {
+        (true, true) => Relation::Overlaps,
+        (false, true) => Relation::Within,
+        (true, false) => Relation::Contains,
+        (false, false) => Relation::Equals,
+    }
+}
+
+/// The relation of two features whose interiors do not meet, by whether their boundaries have a point in common.
+pub(crate) fn touching(met: bool) -> Relation
+    ensures { result ≡ touching met }
+{
+    if met {
+        Relation::Touches
+    } else {
+        Relation::Disjoint
+    }
+}
+
+/// Whether one of two features contains the other.
+pub(crate) fn is_part(relation: Relation) -> bool
+    ensures { result ≡ is_part relation }
+{
+    match relation {
+        Relation::Within | Relation::Contains => true,
+        _ => false,
+    }
 }
 
 /// The relation of two features whose interiors meet.
@@ -189,15 +247,32 @@ pub(crate) fn relation_within(
     both: &Both,
     steps: &PairSteps,
     limit: usize,
-) -> Result<Relation, JobFault> {
-    let first = has_rest(alloc, features, both, true, steps, limit)?;
-    let second = has_rest(alloc, features, both, false, steps, limit)?;
-    Ok(match (first, second) {
-        (true, true) => Relation::Overlaps,
-        (false, true) => Relation::Within,
-        (true, false) => Relation::Contains,
-        (false, false) => Relation::Equals,
-    })
+) -> Result<Relation, JobFault>
+    ensures { IfOk result (λ relation. IsByRests features.now both.now.near.now steps.now
+        both.now.a.now.found both.now.b.now.found both.now.found.now relation) }
+{
+    let (near, a, b, found) = (both.near, both.a, both.b, both.found);
+    let first = has_rest(
+        alloc,
+        features,
+        near,
+        a,
+        b,
+        &steps.first_alone,
+        found,
+        limit,
+    )?;
+    let second = has_rest(
+        alloc,
+        features,
+        near,
+        b,
+        a,
+        &steps.second_alone,
+        found,
+        limit,
+    )?;
+    Ok(relation_by(first, second))
 }
 
 /// Whether two features have no point in common, by the boxes of their boundaries.

@@ -1,7 +1,7 @@
 //! Replies to blocks, as bytes; docs/FORMAT.md has the form.
 ghost use Rattle.std.specs.Prelude.{◌≡◌, ◌<◌, ◌/◌, ◌++◌, length, IfOk, OnOk};
 ghost use Rattle.feature_jobs.specs.Bytes.{small, wide};
-ghost use Rattle.feature_jobs.specs.Rows.{fault_row, cells_head, HasFound};
+ghost use Rattle.feature_jobs.specs.Rows.{fault_row, cells_head, most, bound_of, pair_head, HasFound, HasPair};
 ghost use Rattle.feature_jobs.specs.Reply.{refused, row_size, corner_size, length_of, head_of, bytes_of};
 
 use crate::bytes::{add_i128, add_u32, add_u64, add_words, small};
@@ -51,16 +51,16 @@ impl Model for Reply {
 }
 
 /// The greater number.
-fn most(a: i128, b: i128) -> i128 {
+fn most(a: i128, b: i128) -> i128
+    ensures { result ≡ most a b }
+{
     if a < b { b } else { a }
 }
 
-/// The row of a pair with its rings and corners.
-pub(crate) fn pair_row(
-    alloc: Global,
-    one: &PairFound,
-    form: &RingForm,
-) -> Result<Vec<u8>, AllocError> {
+/// What a pair's row begins with.
+fn pair_head(alloc: Global, one: &PairFound, rings: u32) -> Result<Vec<u8>, AllocError>
+    ensures { IfOk result (λ row. row.items ≡ pair_head one.now rings) }
+{
     let mut row = Vec::new(alloc);
     let proper = if one.is_proper { 1 } else { 0 };
     add_words(
@@ -71,16 +71,48 @@ pub(crate) fn pair_row(
             proper,
             small(one.both.pieces),
             small(one.both.windows),
-            ring_count(&one.outline),
+            rings,
             0,
             0,
         ],
     )?;
-    let bound = most(one.both.bound, most(one.a.bound, one.b.bound));
-    add_i128(&mut row, one.a.twice)?;
-    add_i128(&mut row, one.b.twice)?;
-    add_i128(&mut row, one.both.twice)?;
-    add_i128(&mut row, bound)?;
+    Ok(row)
+}
+
+/// Adds twice the areas of both features of a pair.
+fn add_own_areas(to: &mut Vec<u8>, one: &PairFound) -> Result<(), AllocError>
+    ensures { OnOk result (to.new.items ≡ (to.old.items ++ wide one.now.a.twice) ++ wide one.now.b.twice) }
+{
+    add_i128(to, one.a.twice)?;
+    add_i128(to, one.b.twice)
+}
+
+/// How far one of the areas of a pair may be off.
+fn bound_of(one: &PairFound) -> i128
+    ensures { result ≡ bound_of one.now }
+{
+    most(one.both.bound, most(one.a.bound, one.b.bound))
+}
+
+/// Adds twice the area of what both have in common, and how far one of the areas may be off.
+fn add_common_area(to: &mut Vec<u8>, one: &PairFound) -> Result<(), AllocError>
+    ensures { OnOk result (to.new.items ≡ (to.old.items ++ wide one.now.both.twice) ++ wide (bound_of one.now)) }
+{
+    add_i128(to, one.both.twice)?;
+    add_i128(to, bound_of(one))
+}
+
+/// The row of a pair with its rings and corners.
+pub(crate) fn pair_row(
+    alloc: Global,
+    one: &PairFound,
+    form: &RingForm,
+) -> Result<Vec<u8>, AllocError>
+    ensures { IfOk result (λ row. HasPair one.now row.items) }
+{
+    let mut row = pair_head(alloc, one, ring_count(&one.outline))?;
+    add_own_areas(&mut row, one)?;
+    add_common_area(&mut row, one)?;
     let rest = outline_bytes(alloc, &one.outline, form)?;
     row.extend_from_slice(&rest)?;
     Ok(row)

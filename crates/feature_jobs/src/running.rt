@@ -1,51 +1,36 @@
 //! The jobs of a block, answered in order.
-ghost use Rattle.std.specs.Prelude.{◌≡◌, ◌≤◌, [], false, IfOk, IfErr, IsErr, IsOk};
-ghost use Rattle.block_reading.specs.Block.{features_of};
+ghost use Rattle.std.specs.Prelude.{◌≡◌, ◌≤◌, ◌-◌, [], false, map, IfOk, IfErr, IsErr, IsOk};
 ghost use Rattle.block_reading.specs.Fault.{code_of as refusal_of, job_of};
-ghost use Rattle.feature_jobs.specs.Answers.{AreRows, IsRow, IsCellsRow, WasFound, IsAnswered, IsReply, IsSpelled, has_rings, points_reply, job_number};
+ghost use Rattle.feature_jobs.specs.Answers.{AreRows, AreRowsOf, IsRow, IsPairRow, IsCellsRow, near_of, IsAnswered, IsReply, IsSpelled, has_rings, points_reply, job_number};
+ghost use Rattle.feature_jobs.specs.Findings.{IsFoundOf};
 ghost use Rattle.feature_jobs.specs.Reply.{refused, no_job, row_size};
 ghost use Rattle.feature_jobs.specs.Fault.{code_of};
+ghost use Rattle.feature_jobs.specs.Pairs.{IsPair};
 ghost use Rattle.feature_jobs.specs.Rows.{IsFaultRow};
+ghost use Rattle.feature_jobs.specs.Shared.{AreShared, asked_of};
 ghost use Rattle.feature_jobs.specs.declared.fault.JobFault.TheVariants as faults;
 
 use crate::bytes::small;
 use crate::cells::cells;
 use crate::dealing::{Dealt, deal_out};
-use crate::expressions::within_core;
 use crate::fault::JobFault;
-use crate::known::{Knowing, all_known, known_at};
+use crate::ground::{Ground, Shared, ground_of};
+use crate::known::known_at;
 use crate::pair::{PairFound, pair};
 use crate::points::point_rows;
-use crate::relation::{PairSteps, pair_steps};
 use crate::reply::{Reply, cells_row, fault_row, pair_row, row_size};
 use crate::rings::form_in;
 use block_reading::{Block, BlockFault, Core, Head, Job, Member};
 use boundary_outlines::Outline;
-use feature_windows::{Features, Found, Near};
-use layer_expr::StepList;
+use feature_windows::{Found, Near};
 use row_writing::{Answering, write_rows};
 use std::alloc::{AllocError, Global};
 
-/// What the jobs of a kind share.
-#[derive(Debug, Drop)]
-enum Shared {
-    Pairs(Vec<Knowing>, PairSteps),
-    Cells(StepList),
-    Points,
-}
-
-/// What all jobs of a block share.
-#[derive(Debug, Drop)]
-struct Ground {
-    features: Features,
-    shared: Shared,
-    limit: usize,
-    outlines: bool,
-    fractions: bool,
-}
-
 /// The answer to a pair.
-fn pair_of(alloc: Global, ground: &Ground, a: usize, b: usize) -> Result<PairFound, JobFault> {
+fn pair_of(alloc: Global, ground: &Ground, a: usize, b: usize) -> Result<PairFound, JobFault>
+    ensures { IfOk result
+        (λ one. AreShared ground.now.features ground.now.shared → IsPair ground.now.features a b one) }
+{
     let Shared::Pairs(known, steps) = &ground.shared else {
         return Err(JobFault::BadExpression);
     };
@@ -61,7 +46,7 @@ fn pair_of(alloc: Global, ground: &Ground, a: usize, b: usize) -> Result<PairFou
             layer: 1,
         },
     ];
-    pair(
+    let one = pair(
         alloc,
         &ground.features,
         &near,
@@ -70,7 +55,8 @@ fn pair_of(alloc: Global, ground: &Ground, a: usize, b: usize) -> Result<PairFou
         steps,
         ground.limit,
         ground.outlines,
-    )
+    )?;
+    Ok(one)
 }
 
 /// The answer to a core.
@@ -80,7 +66,8 @@ fn cells_of(
     core: &Core,
     members: &[Member],
 ) -> Result<(Found, Option<Outline>), JobFault>
-    ensures { IfOk result (λ both. WasFound ground.now.features core.now members.now both.0) }
+    ensures { IfOk result (λ both. IsFoundOf ground.now.features (map near_of members.now)
+        ((asked_of ground.now.shared).bases - 1) core.now (asked_of ground.now.shared) both.0) }
 {
     let Shared::Cells(steps) = &ground.shared else {
         return Err(JobFault::BadExpression);
@@ -107,7 +94,10 @@ fn row_of_fault(alloc: Global, fault: JobFault, kind: u32) -> Result<Vec<u8>, Al
 }
 
 /// The row of a pair.
-fn row_of_pair(alloc: Global, ground: &Ground, a: u32, b: u32) -> Result<Vec<u8>, AllocError> {
+fn row_of_pair(alloc: Global, ground: &Ground, a: u32, b: u32) -> Result<Vec<u8>, AllocError>
+    ensures { IfOk result (λ row. AreShared ground.now.features ground.now.shared
+        → IsPairRow ground.now.features a b row.items) }
+{
     match pair_of(alloc, ground, a as usize, b as usize) {
         Ok(one) => pair_row(alloc, &one, &form_in(&one.core, ground.fractions)),
         Err(fault) => row_of_fault(alloc, fault, 0),
@@ -121,7 +111,8 @@ fn row_of_cells(
     core: &Core,
     members: &[Member],
 ) -> Result<Vec<u8>, AllocError>
-    ensures { IfOk result (λ row. IsCellsRow ground.now.features core.now members.now row.items) }
+    ensures { IfOk result (λ row. IsCellsRow ground.now.features (asked_of ground.now.shared)
+        core.now members.now row.items) }
 {
     match cells_of(alloc, ground, core, members) {
         Ok((found, outline)) => cells_row(
@@ -135,7 +126,8 @@ fn row_of_cells(
 }
 
 impl Answering<Job> for Ground {
-    ghost answers = { λ ground job row. IsRow ground.features job row };
+    ghost answers = { λ ground job row. AreShared ground.features ground.shared
+        → IsRow ground.features (asked_of ground.shared) job row };
 
     fn row(&self, alloc: Global, job: &Job) -> Result<Vec<u8>, AllocError> {
         match job {
@@ -151,42 +143,11 @@ impl Answering<Job> for Ground {
     }
 }
 
-/// What the jobs of the kind of a block share.
-fn shared_of(alloc: Global, block: &Block, features: &Features) -> Result<Shared, JobFault>
-    ensures points { 2 ≤ block.now.head.kind → IsOk result }
-{
-    let head = block.head();
-    match head.kind {
-        0 => {
-            let steps = pair_steps(alloc)?;
-            let known = all_known(alloc, features, head.limit as usize)?;
-            Ok(Shared::Pairs(known, steps))
-        }
-        1 => Ok(Shared::Cells(within_core(alloc, block.expression(), head.layers as usize)?)),
-        _ => Ok(Shared::Points),
-    }
-}
-
-/// What the jobs of a block share.
-fn ground_of(alloc: Global, block: &Block) -> Result<Ground, JobFault>
-    ensures features { IfOk result (λ ground. ground.features ≡ features_of block.now.shapes) }
-    ensures points { 2 ≤ block.now.head.kind → IfErr result (λ fault. fault ≡ faults.OutOfMemory) }
-{
-    let head = block.head();
-    let features = Features::of(alloc, block.shapes())?;
-    let shared = shared_of(alloc, block, &features)?;
-    Ok(Ground {
-        features,
-        shared,
-        limit: head.limit as usize,
-        outlines: head.flags % 2 == 1,
-        fractions: head.flags / 2 % 2 == 1,
-    })
-}
-
 /// The rows of jobs, each with its rings and corners, in order.
 fn records_of(alloc: Global, ground: &Ground, jobs: &[Job]) -> Result<Vec<u8>, AllocError>
-    ensures { IfOk result (λ records. AreRows ground.now.features jobs.now records.items) }
+    ensures { IfOk result
+        (λ records. AreShared ground.now.features ground.now.shared
+        → AreRows ground.now.features (asked_of ground.now.shared) jobs.now records.items) }
 {
     let mut records = Vec::new(alloc);
     match write_rows(alloc, ground, jobs, &mut records) {
@@ -221,7 +182,7 @@ fn parts_of(alloc: Global, block: &Block, records: Vec<u8>) -> Result<Dealt, All
 
 /// The reply of these records.
 fn reply_of(alloc: Global, block: &Block, records: Vec<u8>) -> Result<Reply, AllocError>
-    requires { AreRows (features_of block.now.shapes) block.now.jobs records.items }
+    requires { AreRowsOf block.now records.items }
     ensures { IfOk result (λ reply. IsAnswered block.now reply) }
 {
     let parts = parts_of(alloc, block, records)?;

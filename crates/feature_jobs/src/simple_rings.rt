@@ -1,17 +1,18 @@
 //! Features of one ring that is simple, as no two of its few steps meet, or as it goes once round the middle of its box: no
 //! pass is needed to know its area, and all of its steps are boundary.
+ghost use Rattle.std.specs.Prelude.{◌≡◌, ◌∷◌, [], IfSome};
+ghost use Rattle.feature_jobs.specs.Pairs.{IsOfRing};
+
+use crate::corner_areas::{in_parts, turned};
 use crate::steps::{Step, leads_back, seen_from, steps_meet};
 use block_reading::{Core, FarPoint};
-use feature_windows::{Features, Found, parted};
+use feature_windows::{Features, Found, Rings, parted};
 
 /// A box is less wide and high than this, so that products of ways in it fit 64 bits.
 const WIDE_MAX: i64 = 1073741824;
 
 /// The most steps of a ring that are looked at two by two.
 const STEPS_MAX: usize = 64;
-
-/// Into how many parts a unit square is divided.
-const PARTS: i128 = 1099511627776;
 
 /// The middle of a box.
 fn middle(core: &Core) -> FarPoint {
@@ -33,11 +34,10 @@ fn turn(a: FarPoint, b: FarPoint) -> i64 {
     a.x.wrapping_mul(b.y).wrapping_sub(a.y.wrapping_mul(b.x))
 }
 
-/// What a line has swept over, seen from a point: twice that area, how many of its steps have the point on their left, how
-/// many on their right, and how many lead up past its height.
+/// What a line has swept over, seen from a point: how many of its steps have the point on their left, how many on their
+/// right, and how many lead up past its height.
 #[derive(Clone, Copy, Debug)]
 struct Swept {
-    twice: i128,
     lefts: usize,
     rights: usize,
     ups: usize,
@@ -46,7 +46,6 @@ struct Swept {
 /// Goes on by one step.
 fn go_on(so_far: &mut Swept, a: FarPoint, b: FarPoint) {
     let area = turn(a, b);
-    so_far.twice = so_far.twice.wrapping_add(i128::from(area));
     if area > 0 {
         so_far.lefts = so_far.lefts.saturating_add(1);
     }
@@ -61,7 +60,6 @@ fn go_on(so_far: &mut Swept, a: FarPoint, b: FarPoint) {
 /// What a line has swept over, seen from a point, and where it ends.
 fn sweep(first: FarPoint, others: &[FarPoint], middle: FarPoint) -> (Swept, FarPoint) {
     let mut so_far = Swept {
-        twice: 0,
         lefts: 0,
         rights: 0,
         ups: 0,
@@ -118,37 +116,49 @@ fn is_simple(first: FarPoint, others: &[FarPoint]) -> bool {
     true
 }
 
-/// Twice the area of a closed ring that goes once round a point, each of its steps on the same side of it, or is simple.
-fn ring_area(ring: &[FarPoint], middle: FarPoint) -> Option<i128> {
-    let (first, others) = ring.split_first()?;
-    let (all, end) = sweep(*first, others, middle);
-    let begin = seen_from(*first, middle);
+/// Whether a line of points is a closed ring that goes once round a point, each of its steps on the same side of it, or
+/// one that is simple.
+fn is_known(first: FarPoint, others: &[FarPoint], middle: FarPoint) -> bool {
+    let (all, end) = sweep(first, others, middle);
+    let begin = seen_from(first, middle);
     if end.x != begin.x || end.y != begin.y {
-        return None;
+        return false;
     }
     let is_round = all.lefts == others.len() || all.rights == others.len();
-    if !(is_round && all.ups == 1) && !is_simple(*first, others) {
+    (is_round && all.ups == 1) || is_simple(first, others)
+}
+
+/// The first point and the others of the only ring of some rings.
+fn only_ring(rings: &Rings) -> Option<(FarPoint, &[FarPoint])>
+    ensures { IfSome result (λ ring. rings.now ≡ (ring.0 ∷ ring.1.now) ∷ []) }
+{
+    let (counts, points) = rings.lent();
+    let (count, rest) = counts.split_first()?;
+    if !rest.is_empty() {
         return None;
     }
-    Some(if all.twice < 0 {
-        all.twice.wrapping_neg()
-    } else {
-        all.twice
-    })
+    let (ring, _) = parted(points, *count);
+    let (first, others) = ring.split_first()?;
+    Some((*first, others))
 }
 
 /// What a feature encloses, if it is one ring that is known to be simple.
-pub(crate) fn simple(features: &Features, feature: usize, extent: &Core) -> Option<Found> {
-    let (counts, points) = features.rings_of(feature)?.lent();
-    if counts.len() != 1 || !is_small(extent) {
+pub(crate) fn simple(features: &Features, feature: usize, extent: &Core) -> Option<Found>
+    ensures { IfSome result (λ found. IsOfRing features.now feature found) }
+{
+    let rings = features.rings_of(feature)?;
+    let Some((first, others)) = only_ring(rings) else {
+        return None;
+    };
+    if !is_small(extent) || !is_known(first, others, middle(extent)) {
         return None;
     }
-    let (ring, _) = parted(points, counts[0]);
-    let twice = ring_area(ring, middle(extent))?;
+    let area = turned(first, others)?;
+    let twice = in_parts(area)?;
     Some(Found {
-        twice: twice.wrapping_mul(PARTS),
+        twice,
         bound: 0,
-        pieces: ring.len().saturating_sub(1),
+        pieces: others.len(),
         windows: 0,
     })
 }

@@ -1,4 +1,4 @@
-use Rattle.std.proofs.Common.{ℤ, pos, ◌≤ℤ◌, [], ◌++◌, sym, ap, ◌∙◌, subst}
+use Rattle.std.proofs.Common.{pos, ◌≤ℤ◌, [], ◌++◌, sym, ap, ◌∙◌, subst}
 use Rattle.std.proofs.lemmas.List.Elements.{All-get_or}
 use Rattle.overlay_terms.specs.Plane.{Point}
 use Rattle.feature_jobs.specs.Rows.{point_row}
