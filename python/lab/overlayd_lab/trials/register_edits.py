@@ -15,11 +15,13 @@ zones are made anew, by GDAL. It ends with status 1 where something is lost or w
 from __future__ import annotations
 
 import contextlib
+import functools
 import http.client
 import importlib
 import importlib.util
 import json
 import multiprocessing
+import multiprocessing.process
 import os
 import pathlib
 import random
@@ -42,8 +44,11 @@ from overlayd.register.answers import Program
 from overlayd.register.auditing import audit
 from overlayd.register.beginning import engine_of, opened
 from overlayd.register.geojson import geometry_of
+from overlayd.register.lasting import lasting
 from overlayd.register.model import Refused
+from overlayd.register.refreshing import refresh
 from overlayd.register.tables import Item, Table
+from overlayd.register.watching import Watching
 from overlayd_lab import LAB, TOP
 from overlayd_lab.counting import Tries, Words
 
@@ -53,6 +58,8 @@ KEPT = (("pairs", "pz", "parcels", "zones"), ("check", "shared", "parcels"), ("d
 RULES = (("parcels", "must not overlap"), ("parcels", "must not have gaps"))
 UTM = "<http://www.opengis.net/def/crs/EPSG/0/25832>"
 SECONDS = 600.0
+FORKED = multiprocessing.get_context("forkserver")
+FORKED.set_forkserver_preload(["osgeo.ogr", "overlayd.commands.register", "overlayd_lab.counting"])
 AMID = 0.2  # seconds in which the front is killed after it was asked
 RUNNING: list[Any] = []  # what QGIS wants to be kept
 Writer = Callable[[str, str, int, bytes], None]
@@ -101,6 +108,14 @@ def appended(words: str, name: str, geometry: object, values: dict[str, Any]) ->
         sink.write({"type": "Feature", "properties": values, "geometry": geometry})
 
 
+def worked(words: str, features: str, what: str) -> None:
+    """A watch, or one refresh."""
+    program = lasting(Program(Ask(features), opened(words).state().factor))
+    if what == "watch":
+        Watching(functools.partial(engine_of, words), program).run(lambda: True)
+    refresh(opened(words), program)
+
+
 class Trial:
     """A register, what is known of its features, and those that edit it or work beside it."""
 
@@ -108,13 +123,14 @@ class Trial:
         self.words, self.features, self.draw, self.tries = words, features, random.Random(seed), tries
         self.open()
         self.known = {(name, fid): etag for name in LAYERS for fid, etag in self.etags(name).items()}
-        self.beside: dict[str, subprocess.Popen[str]] = {}
+        self.beside: dict[str, subprocess.Popen[str] | multiprocessing.process.BaseProcess] = {}
         # Of a file that GDAL closes the process loses all of SQLite's locks: so GDAL and QGIS work in others.
         self.pools: dict[Writer, Executor] = {writer: self.pool() for writer in (by_gdal, by_qgis)}
         self.ways = {"sql": 6, "ogr": 2, "ogr2ogr": 1, "front": 4}
         self.ways |= {"fiona": 1} if importlib.util.find_spec("fiona") and not self.is_database() else {}
         self.ways |= {"qgis": 1} if importlib.util.find_spec("qgis") else {}
-        self.kills = ["front", "watch", "refresh", "kept", *(["backend"] if self.is_database() else [])]
+        self.kills = {"front": 1, "kept": 1, "watch": 4, "refresh": 4}
+        self.kills |= {"backend": 1} if self.is_database() else {}
         self.address, self.counts = "", dict.fromkeys(
             [*self.ways, "refused", "failed", *(f"{one} killed" for one in self.kills)], 0)
 
@@ -141,18 +157,20 @@ class Trial:
         return {one.fid: one.etag() for one in self.tables[name].page(-1, 10**9)}
 
     def begin(self, what: str) -> None:
-        """A process beside: the front, a watch, or one refresh."""
-        own = ["serve", self.words, "--writable", "--port", "0"] if what == "front" else ["register", what, self.words]
-        self.beside[what] = subprocess.Popen([*OVERLAY, *own, "--program", self.features], text=True,
-                                             stdout=subprocess.PIPE, stderr=subprocess.DEVNULL)
-        if what == "front":
-            line = self.beside[what].stdout
-            assert line is not None
-            self.address = line.readline().strip()
+        """A process beside: the front, a watch, or one refresh. The latter two begin as copies of one that has read all
+        modules, since a kill is to cost little."""
+        if what != "front":
+            self.beside[what] = FORKED.Process(target=worked, args=(self.words, self.features, what))
+            return self.beside[what].start()
+        front = subprocess.Popen([*OVERLAY, "serve", self.words, "--writable", "--port", "0", "--program",
+                                  self.features], text=True, stdout=subprocess.PIPE, stderr=subprocess.DEVNULL)
+        self.beside[what], line = front, front.stdout
+        assert line is not None
+        self.address = line.readline().strip()
 
     def kill(self) -> None:
         """Ends a process at any moment, and begins it anew where nobody else does."""
-        what = self.draw.choice(self.kills)
+        (what,) = self.draw.choices([*self.kills], [*self.kills.values()])
         self.counts[f"{what} killed"] += 1
         if what == "backend":
             found = self.engine.ask("SELECT pid FROM pg_stat_activity WHERE datname = current_database() ORDER BY 1")
@@ -174,8 +192,9 @@ class Trial:
         return self.begin(what) if what != "refresh" else None
 
     def end(self, what: str) -> None:
-        self.beside[what].send_signal(signal.SIGKILL)
-        self.beside[what].wait()
+        one = self.beside[what]
+        one.kill()
+        one.wait() if isinstance(one, subprocess.Popen) else one.join()
 
     def feature(self, names: tuple[str, ...] = ("parcels", "parcels", "zones")) -> tuple[str, Item | None]:
         name = self.draw.choice(names)
@@ -309,9 +328,8 @@ class Trial:
     def close(self) -> None:
         for pool in self.pools.values():
             pool.shutdown()
-        for one in self.beside.values():
-            one.terminate()
-            one.wait()
+        for what in self.beside:
+            self.end(what)
 
 
 def made(folder: pathlib.Path, database: str | None, parcels: int, features: str) -> str:
