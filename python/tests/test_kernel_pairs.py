@@ -2,12 +2,14 @@
 
 import re
 from pathlib import Path
+from unittest import mock
 
 import numpy as np
 import pytest
 from hypothesis import given, settings
 from hypothesis import strategies as drawn
 
+from overlayd.kernel import box_pairs
 from overlayd.kernel.blocks import Asked, Kind, Wants, block, cells_job, locate_job, pair_blocks, within_blocks
 from overlayd.kernel.box_pairs import pairs, pairs_within
 from overlayd.kernel.features import Features, of_rings
@@ -44,8 +46,8 @@ def as_lists(features: Features) -> list[list[Way]]:
 
 
 @settings(deadline=None)
-@given(boxes, boxes, drawn.booleans())
-def test_pairs_are_those_with_a_common_part(a: list[Box], b: list[Box], touching: bool) -> None:
+@given(boxes, boxes, drawn.booleans(), drawn.sampled_from((-1, box_pairs.FEW)))
+def test_pairs_are_those_with_a_common_part(a: list[Box], b: list[Box], touching: bool, few: int) -> None:
     def is_pair(one: Box, other: Box) -> bool:
         west, south = max(one[0], other[0]), max(one[1], other[1])
         east, north = min(one[2], other[2]), min(one[3], other[3])
@@ -53,10 +55,10 @@ def test_pairs_are_those_with_a_common_part(a: list[Box], b: list[Box], touching
 
     first, second = (np.array(own, np.int64).reshape(-1, 4) for own in (a, b))
     full = [[own for own in enumerate(one) if own[1] != (1, 1, 0, 0)] for one in (a, b)]
-    assert pairs(first, second, touching).tolist() == [[i, j] for i, one in full[0] for j, other in full[1]
-                                                       if is_pair(one, other)]
-    assert pairs_within(first, touching).tolist() == [[i, j] for i, one in full[0] for j, other in full[0]
-                                                      if i < j and is_pair(one, other)]
+    with mock.patch.object(box_pairs, "FEW", few):  # by grids, and all together
+        found, within = (own.tolist() for own in (pairs(first, second, touching), pairs_within(first, touching)))
+    assert found == [[i, j] for i, one in full[0] for j, other in full[1] if is_pair(one, other)]
+    assert within == [[i, j] for i, one in full[0] for j, other in full[0] if i < j and is_pair(one, other)]
 
 
 @settings(deadline=None)

@@ -11,11 +11,15 @@ import numpy as np
 from ..geometry.flat_arrays import Numbers, mixed, spans
 
 PAIRS_AT_ONCE = 1 << 20
+FEW = 1 << 16  # pairs that are sooner looked at all together than by grids
 
 
 def pairs(a: Numbers, b: Numbers, touching: bool = False) -> Numbers:
     """The rows (i, j) for which boxes a[i] and b[j] have a common part with an area, or where touching a common point,
     by i, then j."""
+    if len(a) * len(b) <= FEW:
+        low, high = np.maximum(a[:, None, :2], b[None, :, :2]), np.minimum(a[:, None, 2:], b[None, :, 2:])
+        return np.argwhere((low <= high if touching else low < high).all(axis=2))
     of_a, of_b = levels_of(a), levels_of(b)
     found = [np.zeros(0, np.int64)]
     for level in levels_in(of_a, of_b):
@@ -28,6 +32,9 @@ def pairs(a: Numbers, b: Numbers, touching: bool = False) -> Numbers:
 
 def pairs_within(boxes: Numbers, touching: bool = False) -> Numbers:
     """The pairs of boxes of one list, the first before the second."""
+    if len(boxes)**2 <= FEW:
+        both = pairs(boxes, boxes, touching)
+        return both[both[:, 0] < both[:, 1]]
     levels = levels_of(boxes)
     found = [np.zeros(0, np.int64)]
     for level in levels_in(levels):

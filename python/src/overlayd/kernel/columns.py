@@ -1,9 +1,9 @@
 """Columns of Well-Known Binary: the bytes of many shapes one after the other, and the doubles in them.
 
-Doubles lie in them at any byte, so all numbers are read and written by views of the whole column that begin at byte 0
-to 7."""
+Doubles lie in them at any byte, so all numbers are read and written by a view of the whole column that has one at each
+byte."""
 
-from collections.abc import Iterator, Sequence
+from collections.abc import Sequence
 from dataclasses import dataclass
 
 import numpy as np
@@ -61,48 +61,34 @@ def of_arrow(shapes: Numbers) -> Column:
     return of_bytes(shapes.tolist())
 
 
-def views(places: Numbers, is_big: Numbers, size: int) -> Iterator[tuple[Numbers | slice, int, str]]:
-    """Which places of numbers of a size a view of each first byte and order of bytes has: their numbers, the byte, the
-    order."""
-    key = places % size
-    if is_big.any():
-        key = key + size * is_big
-    used = np.flatnonzero(np.bincount(key))
-    for one in used.tolist():
-        yield slice(None) if len(used) == 1 else np.flatnonzero(key == one), one % size, "<>"[one // size]
-
-
-def viewed(data: Numbers, first: int, kind: str) -> Numbers:
-    """All whole numbers of a kind from a byte on."""
+def numbers_from(data: Numbers, kind: str) -> Numbers:
+    """The numbers of a kind that begin at each byte."""
     size = np.dtype(kind).itemsize
-    return data[first : first + (len(data) - first) // size * size].view(kind)
+    return np.ndarray((max(0, len(data) - size + 1),), kind, data, 0, (1,))
 
 
 def counts_at(data: Numbers, places: Numbers, is_big: Numbers) -> Numbers:
     """The numbers of four bytes that begin at bytes."""
-    found: Numbers = np.zeros(len(places), np.int64)
-    for at, first, order in views(places, is_big, COUNT):
-        found[at] = viewed(data, first, order + "u4")[places[at] // COUNT]
-    return found
+    return in_order(numbers_from(data, "<u4")[places], is_big).astype(np.int64)
 
 
 def points_at(data: Numbers, places: Numbers, is_big: Numbers) -> tuple[Numbers, Numbers]:
     """The points, two doubles each, that begin at bytes."""
-    x, y = np.zeros(len(places)), np.zeros(len(places))
-    for at, first, order in views(places, is_big, WIDTH):
-        doubles, own = viewed(data, first, order + "f8"), places[at] // WIDTH
-        x[at], y[at] = doubles[own], doubles[own + 1]
-    return x, y
+    doubles = numbers_from(data, "<f8")
+    return in_order(doubles[places], is_big), in_order(doubles[places + WIDTH], is_big)
+
+
+def in_order(found: Numbers, is_big: Numbers) -> Numbers:
+    """Numbers, some of which have their bytes in the other order."""
+    return np.where(is_big, found.byteswap(), found) if is_big.any() else found
 
 
 def put_counts(data: Numbers, places: Numbers, counts: Numbers) -> None:
     """Writes numbers of four bytes, lowest bytes first, so that they begin at bytes."""
-    for at, first, _ in views(places, np.zeros(1, bool), COUNT):
-        viewed(data, first, "<u4")[places[at] // COUNT] = counts[at]
+    numbers_from(data, "<u4")[places] = counts
 
 
 def put_points(data: Numbers, places: Numbers, x: Numbers, y: Numbers) -> None:
     """Writes points likewise."""
-    for at, first, _ in views(places, np.zeros(1, bool), WIDTH):
-        doubles, own = viewed(data, first, "<f8"), places[at] // WIDTH
-        doubles[own], doubles[own + 1] = x[at], y[at]
+    doubles = numbers_from(data, "<f8")
+    doubles[places], doubles[places + WIDTH] = x, y
