@@ -1,7 +1,6 @@
 """Layers as they were, beside what they were then, after edits of all kinds; what is purged; copies of a file."""
 
 import random
-import sqlite3
 import subprocess
 import time
 from pathlib import Path
@@ -120,7 +119,7 @@ def test_the_command_and_the_front_give_a_layer_as_it_was(tmp_path: Path) -> Non
     assert "no time" in run("purge", own.path, "soon").stderr
 
 
-def test_a_file_is_copied_while_others_edit_it(tmp_path: Path) -> None:
+def test_a_file_is_copied_while_others_edit_it_and_the_copy_goes_on(tmp_path: Path) -> None:
     own = land(tmp_path / "land.gpkg", 3, (PAIRS,))
     writer = GeoPackage(str(own.path), writes_layers=True)
     writer.ask("BEGIN IMMEDIATE")
@@ -129,7 +128,10 @@ def test_a_file_is_copied_while_others_edit_it(tmp_path: Path) -> None:
     assert (done.returncode, done.stderr, sorted(one.name for one in tmp_path.iterdir() if "copy" in one.name)) == (
         0, "", ["copy.gpkg"])
     writer.ask("COMMIT")
-    copy = sqlite3.connect(tmp_path / "copy.gpkg")
-    assert copy.execute("SELECT count(*) FROM parcels").fetchall() == [(9,)]
-    assert all(one.is_right() for one in audit(Register(GeoPackage(str(tmp_path / "copy.gpkg"))), own.program))
+    copy = Land(tmp_path / "copy.gpkg", Register(GeoPackage(str(tmp_path / "copy.gpkg"))), own.program)
+    assert copy.ask("SELECT count(*) FROM parcels") == [(9,)]
+    assert all(one.is_right() for one in audit(copy.register, own.program))
+    works.by_sql(copy.path, random.Random(3), 6)
+    assert copy.refresh() > 0
+    works.check_tables(copy, (PAIRS,))
     assert "is there already" in run("backup", own.path, tmp_path / "copy.gpkg").stderr

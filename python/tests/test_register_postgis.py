@@ -68,12 +68,16 @@ def server() -> Iterator[str]:
 def words(server: str, request: pytest.FixtureRequest) -> Iterator[str]:
     """A database with PostGIS, as GDAL and the register name it."""
     name = f"db{abs(hash(request.node.name))}"
-    for database, texts in (("postgres", [f"CREATE DATABASE {name}"]), (name, ["CREATE EXTENSION postgis"])):
-        store = connection(f"host={server} user=land dbname={database}")
-        for text in texts:
-            store.cursor().execute(text)
-        store.close()
-    yield f"PG:host={server} user=land dbname={name}"
+    own = database(server, name)
+    connection(own).cursor().execute("CREATE EXTENSION postgis")
+    yield own
+
+
+def database(server: str, name: str) -> str:
+    """An empty database."""
+    words = f"host={server} user=land dbname="
+    connection(f"{words}postgres").cursor().execute(f"CREATE DATABASE {name}")
+    return f"PG:{words}{name}"
 
 
 def connection(words: str) -> Any:
@@ -329,6 +333,21 @@ def test_layers_and_words_that_are_refused(words: str, tmp_path: Path) -> None:
     done = subprocess.run([*OVERLAY, "register", "status", words], capture_output=True, text=True, timeout=SECONDS,
                           check=True)
     assert "layer zones: 0 changes pending" in done.stdout
+
+
+def test_a_dump_that_is_restored_goes_on(server: str, words: str, tmp_path: Path) -> None:
+    own, file, other = land(words, tmp_path, 6), Path(server, "land.dump"), database(server, "restored")
+    by_sql(words, random.Random(6), 5)
+    for program, *options in (("pg_dump", "-Fc", "-f", file, "-d", words), ("pg_restore", "-e", file, "-d", other)):
+        ran(BINARIES[-1].parent / program, *(str(one).removeprefix("PG:") for one in options))
+    copy = Land(other, Register(PostGis(other)), own.program)
+    assert own.refresh() and own.ask("SELECT count(*) FROM overlay_log") == copy.ask("SELECT count(*) FROM overlay_log")
+    for seed in range(3):
+        assert copy.refresh() > 0  # first of what was pending in the dump
+        works.check_tables(copy)
+        by_sql(other, random.Random(seed), 5)
+    assert own.refresh() == 0
+    works.check_tables(own)
 
 
 def test_rules_hold_where_two_change_at_once(words: str, tmp_path: Path) -> None:
