@@ -101,6 +101,5 @@ def checked(column: Column, ask: Ask, names: Sequence[object]) -> Checked:
     answered(found.unanswered, names, names)
     rows = answered(overlay_within(found.own.laid, found.overlaps.pairs, ask.stage(0.8, 1, ask.wants)), names, names)
     assert found.gaps is not None
-    overlaps, gaps = (of.part(np.argsort(-areas, kind="stable"))
-                      for of, areas in ((rows, rows.areas().doubles()), (found.gaps, found.gaps.areas)))
-    return Checked(overlaps, gaps, found.audit.closes())
+    overlaps = rows.part(np.argsort(-rows.areas().doubles(), kind="stable"))
+    return Checked(overlaps, found.gaps.part(np.argsort(-found.gaps.areas, kind="stable")), found.audit.closes())
