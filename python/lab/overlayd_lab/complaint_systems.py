@@ -111,8 +111,7 @@ class PostGis(System):
     """PostGIS, by one connection."""
 
     def __init__(self, place: str) -> None:
-        import psycopg2
-
+        psycopg2: Any = importlib.import_module("psycopg2")
         self.fault = psycopg2.Error
         self.base = psycopg2.connect(host=place, user="postgres")
         self.base.autocommit = True

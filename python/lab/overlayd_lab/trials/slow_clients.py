@@ -41,7 +41,8 @@ def front(program: str, python: str) -> Iterator[str]:
         store = pathlib.Path(folder, "map.db")
         with Server(store, create=True, program=program) as server:
             server.sessions[0].batch(["PUT A POLYGON ((0 0, 10 0, 10 10, 0 10, 0 0))", "DEFINE both = A"])
-        words = [python, TOP / "overlay", "serve", "--store", store, "--writable", "--port", "0", "--program", program]
+        words = [python, str(TOP / "overlay"), "serve", "--store", str(store), "--writable", "--port", "0", "--program",
+                 program]
         with subprocess.Popen(words, stdout=subprocess.PIPE, text=True) as run:
             assert run.stdout
             yield run.stdout.readline().strip()
