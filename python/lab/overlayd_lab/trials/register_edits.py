@@ -160,8 +160,10 @@ class Trial:
         """A process beside: the front, a watch, or one refresh. The latter two begin as copies of one that has read all
         modules, since a kill is to cost little."""
         if what != "front":
-            self.beside[what] = FORKED.Process(target=worked, args=(self.words, self.features, what))
-            return self.beside[what].start()
+            copy = FORKED.Process(target=worked, args=(self.words, self.features, what))
+            copy.start()
+            self.beside[what] = copy
+            return
         front = subprocess.Popen([*OVERLAY, "serve", self.words, "--writable", "--port", "0", "--program",
                                   self.features], text=True, stdout=subprocess.PIPE, stderr=subprocess.DEVNULL)
         self.beside[what], line = front, front.stdout
