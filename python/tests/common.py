@@ -8,8 +8,11 @@ import pathlib
 import subprocess
 import sys
 import tempfile
+import time
 import unittest
+from collections.abc import Callable
 from types import ModuleType
+from typing import Any
 
 from overlayd import cli
 from overlayd.program import Layer, Reply, lines_after
@@ -59,6 +62,40 @@ def on_file(tool: ModuleType, text: str | bytes, *words: object) -> tuple[int, s
         name.write_bytes(text if isinstance(text, bytes) else text.encode())
         status, output, errors = outcome(tool, name, *words)
         return status, output, errors.replace(str(name), "FILE")
+
+
+def ran(*words: object, **how: Any) -> subprocess.CompletedProcess[str]:
+    """A run to its end, and what it wrote, as texts."""
+    usual = {"capture_output": True, "text": True, "check": False, "timeout": SECONDS}
+    return subprocess.run([*map(str, words)], **(usual | how))
+
+
+def in_python(code: str, *words: object, **how: Any) -> subprocess.CompletedProcess[str]:
+    """A run of lines of Python, which finds the package and these tests."""
+    return ran(sys.executable, "-c", code, *words, **({"cwd": TOP, "env": SOURCES} | how))
+
+
+def children(process: int) -> list[int]:
+    """The processes that a process has begun and that have not ended."""
+    threads = pathlib.Path(f"/proc/{process}/task").glob("*/children")
+    return [int(word) for thread in threads for word in thread.read_text().split()]
+
+
+def is_running(process: int) -> bool:
+    """Whether a process goes on. One that has ended stays listed until whoever has taken it over looks at it."""
+    try:
+        return pathlib.Path(f"/proc/{process}/stat").read_text().rpartition(")")[2].split()[0] not in "ZX"
+    except (FileNotFoundError, ProcessLookupError):
+        return False
+
+
+def wait_until(holds: Callable[[], object], seconds: float = 240) -> None:
+    """Waits until something holds; an AssertionError where it does not in time."""
+    end = time.monotonic() + seconds
+    while not holds():
+        if time.monotonic() > end:
+            raise AssertionError(f"it has not come to be in {seconds} seconds")
+        time.sleep(0.01)
 
 
 def fixture(name: str) -> tuple[Layers, dict[str, Columns]]:

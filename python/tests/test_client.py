@@ -313,7 +313,7 @@ class Sessions(ClientCase):
                     one.locate("D", answered, 7)
                 answered += 1
             thread.join()
-        assert answered > 10
+        assert answered > 2
 
     def test_a_session_whose_reply_is_late_is_lent_again_once_it_has_come(self) -> None:
         with running(sessions=3) as server:

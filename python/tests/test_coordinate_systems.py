@@ -2,7 +2,6 @@
 
 import json
 import pathlib
-import subprocess
 import zipfile
 from typing import Any
 
@@ -10,7 +9,7 @@ import pytest
 
 from overlayd.commands import check, derive, export as to_geojson, import_ as to_script, pairs, pieces
 from overlayd.files import coordinate_systems
-from .common import OVERLAY, SECONDS, Programs, outcome
+from .common import OVERLAY, Programs, outcome, ran
 from .test_forms import WithGdal
 
 SHAPE = "POLYGON ((1 1, 9.5 1, 9.5 9, 1 9, 1 1))"
@@ -49,8 +48,7 @@ def text_of(system: str, form: str = "WKT1_ESRI") -> str:
 class WithSystems(WithGdal):
     def ran(self, tool: str, *words: object) -> str:
         """What a command says on standard error."""
-        done = subprocess.run([*OVERLAY, tool, *map(str, words)], capture_output=True, text=True,
-                              timeout=SECONDS, check=False)
+        done = ran(*OVERLAY, tool, *words)
         assert done.returncode == 0, done.stderr
         return done.stderr
 

@@ -8,7 +8,7 @@ import sys
 import unittest
 
 from overlayd import ending
-from .common import OVERLAY, SECONDS, SQUARE, InFolder
+from .common import OVERLAY, SECONDS, SQUARE, InFolder, ran
 
 COUNT = 20000
 SQUARES = 2000
@@ -49,7 +49,7 @@ class Endings(InFolder):
         for unbuffered, (name, *words) in [("", call) for call in calls] + [("1", calls[-2])]:
             begin = f"PYTHONUNBUFFERED={unbuffered} {shlex.join(OVERLAY)} {name} {' '.join(words)}"
             text = f"{begin} 2> {self.folder}/errors | head -c 10 > {self.folder}/output; echo ${{PIPESTATUS[0]}}"
-            done = subprocess.run(["bash", "-c", text], capture_output=True, text=True, check=True, timeout=SECONDS)
+            done = ran("bash", "-c", text, check=True)
             told = (self.folder / "errors").read_text()
             assert (done.stdout, "Broken" in told, "Traceback" in told) == ("1\n", False, False), name + told
 
@@ -78,8 +78,7 @@ class Endings(InFolder):
         name, *words = self.calls()[1]
         call = f"{shlex.join(OVERLAY)} {name} {' '.join(words)}"
         for streams, status in ((">/dev/full 2>&1", 1), (">&- 2>/dev/null", 1), (">/dev/null", 0)):
-            done = subprocess.run(["bash", "-c", f"{call} {streams}"], capture_output=True, text=True, check=False,
-                                  timeout=SECONDS)
+            done = ran("bash", "-c", f"{call} {streams}")
             assert (done.returncode, done.stdout, done.stderr) == (status, "", ""), streams
 
 

@@ -226,18 +226,6 @@ def test_a_clip_is_what_lies_in_the_mask(seed: int) -> None:
         overlayd.clip(df, mask, keep_geom_type=False)
 
 
-def test_areas_of_stars_are_those_of_geos() -> None:
-    df1, df2 = (made.stars(seed, 20).loc[lambda stars: stars.is_valid] for seed in (1, 2))
-    for how in HOWS:
-        own = overlayd.overlay(df1, df2, how, keep_geom_type=True)
-        theirs = geopandas.overlay(df1, df2, how, keep_geom_type=True)
-        keys = [name for name in ("star", "star_1", "star_2") if name in own.columns]
-        sizes = [one.assign(size=one.area).groupby(keys, dropna=False)["size"].sum() for one in (own, theirs)]
-        areas = pd.concat(sizes, axis=1).fillna(0)
-        assert len(areas) > 10
-        np.testing.assert_allclose(*areas.to_numpy().T, atol=0.05)  # a border of 100 that moves by half a thousandth
-
-
 def test_the_package_is_imported_without_geopandas() -> None:
     text = "import sys, overlayd, overlayd.api.cells as _; sys.exit('pandas' in sys.modules or hasattr(overlayd, 'x'))"
     assert subprocess.run([sys.executable, "-c", text], env=SOURCES, check=False).returncode == 0

@@ -7,7 +7,6 @@ import os
 import pathlib
 import resource
 import struct
-import subprocess
 import sys
 from collections.abc import Iterator, Sequence
 
@@ -20,7 +19,7 @@ from overlayd.files import gdal_writing, map_columns
 from overlayd.files.arrow_reading import ReadingFault
 from overlayd.files.map_columns import MapColumn
 from overlayd.kernel.shapes import shapes
-from .common import SOURCES, TOP, InFolder, Programs, outcome
+from .common import InFolder, Programs, in_python, outcome
 
 RING = [(0, 0), (10, 0), (10, 10), (0, 10), (0, 0)]
 HOLE = [(2, 2), (2, 4), (4, 4), (4, 2), (2, 2)]
@@ -220,8 +219,7 @@ class Missing(WithFiles):
         for module, package in (("numpy", "python3-numpy"), ("osgeo", "python3-gdal")):
             text = (f"import sys; sys.modules['{module}'] = None; from overlayd import cli; "
                     "cli.main(['check', *sys.argv[1:]])")
-            done = subprocess.run([sys.executable, "-c", text, *words], cwd=TOP, env=SOURCES, capture_output=True,
-                                  text=True, check=False)
+            done = in_python(text, *words)
             assert (done.returncode, done.stdout, done.stderr) == (
                 1, "", f"overlay check: {package} is missing: apt-get install {package}, and run this by "
                 "/usr/bin/python3\n")

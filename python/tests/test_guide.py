@@ -8,14 +8,13 @@ import os
 import pathlib
 import re
 import shutil
-import subprocess
 import warnings
 
 import pytest
 
 from overlayd_lab import complaints
 
-from .common import SECONDS, TOP, Programs
+from .common import TOP, Programs, ran
 from .test_pages import commands_of
 
 GUIDE = TOP / "docs" / "guide"
@@ -29,8 +28,7 @@ def run_commands(text: str, environment: dict[str, str]) -> int:
     """Runs the commands of a page, and compares what they write; how many there are."""
     commands = commands_of(text)
     for command, wanted in commands:
-        done = subprocess.run(["bash", "-c", command], capture_output=True, text=True, check=False, timeout=SECONDS,
-                              env=environment)
+        done = ran("bash", "-c", command, env=environment)
         assert done.stdout == wanted, f"{command}\n{done.stderr}"
     return len(commands)
 

@@ -2,7 +2,6 @@
 
 import pathlib
 import re
-import subprocess
 import sys
 import tempfile
 import unittest
@@ -13,11 +12,7 @@ import click
 from overlayd.cli import PURPOSES
 from overlayd.words import NUMBER, argument, flag, option, subcommand, words_of
 
-from .common import OVERLAY, SECONDS, TOP
-
-
-def ran(*words: object) -> subprocess.CompletedProcess[str]:
-    return subprocess.run([*map(str, words)], capture_output=True, text=True, check=False, timeout=SECONDS)
+from .common import OVERLAY, TOP, ran
 
 
 class Helps(unittest.TestCase):
@@ -33,8 +28,7 @@ class Helps(unittest.TestCase):
         code = ("import sys\nfrom overlayd import cli\n"
                 "try: cli.main(args=['--help'])\n"
                 "except SystemExit: print(sorted(name for name in sys.modules if name.startswith('overlayd')))\n")
-        done = subprocess.run([sys.executable, "-c", code], cwd=TOP / "python/src", capture_output=True, text=True,
-                              check=True, timeout=SECONDS)
+        done = ran(sys.executable, "-c", code, cwd=TOP / "python/src", check=True)
         listed, _, modules = done.stdout.rstrip().rpartition("\n")
         assert re.findall(r"^  ([a-z]+)  ", listed.partition("Subcommands:")[2], re.M) == list(PURPOSES)
         assert modules == "['overlayd', 'overlayd.api', 'overlayd.cli', 'overlayd.ending']"
@@ -99,6 +93,5 @@ class Helps(unittest.TestCase):
             tree.symlink_to(TOP)
             for called in ([first], [tree / "overlay"], [sys.executable, "-P", first],
                            [sys.executable, TOP / "python/src/overlayd/__main__.py"]):
-                done = subprocess.run([*map(str, called), "which", "--help"], cwd=made, capture_output=True, text=True,
-                                      check=True, timeout=SECONDS)
+                done = ran(*called, "which", "--help", cwd=made, check=True)
                 assert done.stdout.startswith("Usage: overlay which [OPTIONS] [X Y]"), done.stdout

@@ -10,7 +10,7 @@ from overlayd import ending
 from overlayd.cli import PURPOSES
 from overlayd.commands import export as to_geojson, import_ as to_script, rings as to_rings, svg as to_svg, which
 from overlayd.files import writing
-from .common import SECONDS, SOURCES, SQUARE, TOP, InFolder, on_file, outcome
+from .common import SECONDS, SOURCES, SQUARE, TOP, InFolder, in_python, on_file, outcome, ran
 
 RING = [[0, 0], [9, 0], [0, 9], [0, 0]]
 
@@ -90,8 +90,7 @@ class Unforeseen(InFolder):
                 "importlib.import_module = broken\n"
                 "from overlayd import cli\n"
                 f"cli.main(args=[{name!r}])\n")
-        return subprocess.run([sys.executable, *options, "-c", code], cwd=TOP, env=SOURCES, capture_output=True,
-                              text=True, check=False, timeout=SECONDS)
+        return ran(sys.executable, *options, "-c", code, cwd=TOP, env=SOURCES)
 
     def test_one_line_and_status_1(self) -> None:
         for name in PURPOSES:
@@ -107,12 +106,10 @@ class Unforeseen(InFolder):
                 "def stopped(name): raise KeyboardInterrupt\n"
                 "importlib.import_module = stopped\n"
                 "cli.main(args=['which'])\n")
-        done = subprocess.run([sys.executable, "-c", code], cwd=TOP, env=SOURCES, capture_output=True, text=True,
-                              check=False, timeout=SECONDS)
+        done = in_python(code)
         assert (done.returncode, done.stdout, done.stderr) == (ending.INTERRUPTED, "", "")
 
     def test_a_tool_that_is_stopped_from_the_keyboard(self) -> None:
         code = "from overlayd import ending\ndef main(words): raise KeyboardInterrupt\nending.run(main)\n"
-        done = subprocess.run([sys.executable, "-c", code], cwd=TOP, env=SOURCES, capture_output=True, text=True,
-                              check=False, timeout=SECONDS)
+        done = in_python(code)
         assert (done.returncode, done.stdout, done.stderr) == (ending.INTERRUPTED, "", "")

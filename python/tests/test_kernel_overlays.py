@@ -17,11 +17,11 @@ from overlayd.kernel import Ask, Cancelled, Grid, MapFault, Wants, check, derive
 from overlayd.kernel.asking import sum_of
 from overlayd.kernel.colouring import TooManyColours, colours
 from overlayd.kernel.columns import Column, columns_joined, of_bytes
-from overlayd.kernel.deriving import NoMap, UnknownMap
+from overlayd.kernel.deriving import NoMap
 from overlayd.kernel.laying import What, lay
 from overlayd.kernel.spelling import name_of
 from overlayd.kernel.polygons import polygons_of
-from overlayd.kernel.rows import CELLS, RINGS, WIDE, Kind, Relation, Rows
+from overlayd.kernel.rows import CELLS, RINGS, WIDE, Kind, Rows
 from overlayd.kernel.shapes import column_of
 
 from . import slabs
@@ -53,22 +53,6 @@ SQUARE = [(0, 0), (4, 0), (4, 4), (0, 4)]
 
 
 @pytest.mark.features
-@pytest.mark.parametrize("seed, reach", itertools.product(range(6), (3, 9, 2000)))
-def test_pairs_have_the_areas_that_fractions_give(seed: int, reach: int) -> None:
-    a, b = drawn(seed, 8, reach), drawn(seed + 100, 8, reach)
-    found = overlay(column(a), column(b), asked())
-    areas, rows = found.areas(), dict(zip(map(tuple, found.pairs.tolist()), range(len(found))))
-    for i, j in itertools.product(range(8), range(8)):
-        area, row = slabs.common(a[i], b[j]), rows.get((i, j))
-        assert (area > 0) == (row is not None and found.relations()[row] >= Relation.OVERLAPS)
-        if row is not None:
-            assert abs(areas.exact(row) - area) <= areas.bound(row)
-            assert abs(Fraction(areas.doubles()[row]) - area) <= Fraction(areas.bounds()[row])
-            assert found.areas("a").exact(row) == slabs.common(a[i], a[i]) or areas.bound(row)
-            assert (found.relations()[row] == Relation.WITHIN) <= (area == slabs.common(a[i], a[i]))
-
-
-@pytest.mark.features
 @pytest.mark.parametrize("seed, reach", itertools.product(range(6), (5, 40)))
 def test_a_check_finds_overlaps_and_closes(seed: int, reach: int) -> None:
     features = drawn(seed, 6, reach)
@@ -95,23 +79,6 @@ def test_gaps_are_what_features_enclose() -> None:
     assert found.gaps is not None and sorted(found.gaps.areas.tolist()) == [4, 8]
     texts = {ogr.CreateGeometryFromWkb(one).ExportToWkt() for one in found.gaps.outlines.to_list()}
     assert any("),(" in text for text in texts) and len(texts) == 2
-
-
-@pytest.mark.features
-@pytest.mark.parametrize("seed, grid", [(1, 1), (2, 1), (3, 100)])
-def test_an_expression_over_maps_is_that_of_their_unions(seed: int, grid: int) -> None:
-    maps = {name: drawn(seed + place, 4, 60) for place, name in enumerate(("flood", "built", "parks"))}
-    ask = asked(grid=Grid(Fraction(grid)))
-    found = derive({name: column(own, grid) for name, own in maps.items()}, "flood & built - parks", ask)
-    layers = [feature for own in maps.values() for feature in own]
-
-    def inside(states: list[bool]) -> bool:
-        flood, built, parks = (any(states[at : at + 4]) for at in (0, 4, 8))
-        return flood and built and not parks
-
-    assert abs(found.area.exact(0) - slabs.area(layers, inside) / grid**2) <= found.area.bound(0)
-    with pytest.raises(UnknownMap, match="no map woods; say one of: built"):
-        derive({"built": column(maps["built"])}, "built | woods", ask)
 
 
 def star(corners: int, turn: float) -> slabs.Ring:

@@ -1,12 +1,11 @@
 """Replies as arrays, and the program as a process: by a stand-in that replies to blocks as the page on formats says."""
 
-import os
 import signal
 import subprocess
 import sys
 import threading
 import time
-from collections.abc import Callable, Iterator
+from collections.abc import Iterator
 from pathlib import Path
 
 import numpy as np
@@ -17,6 +16,8 @@ from overlayd.kernel.blocks import Asked, Kind, Wants, block
 from overlayd.kernel.features import of_rings
 from overlayd.kernel.rows import CELLS, PAIR, RINGS, BlockRefused, Relation, Rows, rows_of
 from overlayd.kernel.running import Cancelled, ProgramEnded, run
+
+from .common import children, is_running, wait_until
 
 # What a stand-in does with the jobs of a block: it replies a row for each, waits, ends, or refuses the block.
 STAND_IN = """#!{python}
@@ -146,45 +147,19 @@ time.sleep(600)
 """
 
 
-def begun_by(process: int) -> list[int]:
-    """The programs that a process has begun."""
-    found = []
-    for name in os.listdir(f"/proc/{process}/task"):
-        with open(f"/proc/{process}/task/{name}/children", encoding="ascii") as file:
-            found += [int(child) for child in file.read().split()]
-    return found
-
-
-def is_running(process: int) -> bool:
-    """Whether a process goes on. One that has ended stays listed until whoever has taken it over looks at it."""
-    try:
-        with open(f"/proc/{process}/stat", encoding="ascii") as file:
-            return file.read().rpartition(")")[2].split()[0] not in "ZX"
-    except (FileNotFoundError, ProcessLookupError):
-        return False
-
-
-def soon(what: Callable[[], object]) -> bool:
-    """Whether something comes to be true within ten seconds."""
-    end = time.monotonic() + 10
-    while not what() and time.monotonic() < end:
-        time.sleep(0.02)
-    return bool(what())
-
-
 @pytest.mark.parametrize("how", [signal.SIGKILL, signal.SIGTERM])
 def test_the_program_ends_with_the_process_that_began_it_not_with_its_thread(tmp_path: Path, how: int) -> None:
     code = HOST.format(paths=sys.path, program=stand_in(tmp_path, "reply"))
     with subprocess.Popen([sys.executable, "-c", code], stdout=subprocess.PIPE) as host:
         try:
             assert host.stdout is not None and host.stdout.readline() == b"begun\n"
-            assert soon(lambda: begun_by(host.pid))
-            (program,) = begun_by(host.pid)
+            wait_until(lambda: children(host.pid))
+            (program,) = children(host.pid)
             time.sleep(0.5)
             assert is_running(program)
         finally:
             host.send_signal(how)
-    assert soon(lambda: not is_running(program))
+    wait_until(lambda: not is_running(program))
 
 
 def reply(kind: int, flags: int, rows: np.ndarray[object, np.dtype[np.void]], rings: object, corners: object) -> Rows:

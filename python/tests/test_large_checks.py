@@ -5,14 +5,13 @@ import csv
 import math
 import random
 import re
-import subprocess
 import time
 from typing import Any
 
 from shapely.geometry import Polygon
 from shapely.ops import unary_union
 
-from .common import OVERLAY, Programs
+from .common import OVERLAY, Programs, ran
 from .test_map_words import WithMaps, square
 
 ENDS = 300  # seconds, on a busy machine too: before it was mended the first of these took hours
@@ -31,9 +30,7 @@ class Checks(WithMaps):
     def checked(self, *words: object) -> tuple[int, list[list[str]], str]:
         """The status, the rows of the table and what is reported, by the command; it ends in time."""
         begin = time.monotonic()
-        done = subprocess.run([*OVERLAY, "check", *map(str, words), "--a-id", "nr",
-                               "--program", str(Programs.features)], capture_output=True, text=True, timeout=4 * ENDS,
-                              check=False)
+        done = ran(*OVERLAY, "check", *words, "--a-id", "nr", "--program", Programs.features, timeout=4 * ENDS)
         assert time.monotonic() - begin < ENDS
         return done.returncode, list(csv.reader(done.stdout.splitlines()))[1:], done.stderr
 

@@ -10,7 +10,6 @@ import signal
 import subprocess
 import sys
 import tempfile
-import time
 import unittest
 from unittest import mock
 
@@ -20,25 +19,18 @@ from overlayd import progress
 from overlayd.commands import pairs, task
 from overlayd.maps import dask_engine, engines, tasks
 from overlayd.maps.tasks import FolderFault, TaskFolder
-from .common import OVERLAY, SECONDS, SOURCES, TOP, InFolder, Programs, outcome
+from .common import OVERLAY, SECONDS, SOURCES, TOP, InFolder, Programs, is_running, outcome, ran, wait_until
 from .map_works import Refusing, Reversing
 
 NAMES = [f"task {number}".encode() for number in range(12)]
 ENDS = [name[::-1] for name in NAMES]
 HAS_DASK = importlib.util.find_spec("distributed") is not None
-WAIT = 60  # seconds, for what comes at once where the machine is not busy
-DASK_WAIT = 5 * WAIT  # likewise, for what Dask does: its processes take some 6 seconds of processors to begin
+WAIT = 240  # seconds, for what comes at once where the machine is not busy
+DASK_WAIT = 300  # likewise, for what Dask does: its processes take some 6 seconds of processors to begin
 
 
 def quiet() -> progress.OfTasks:
     return progress.OfTasks("names", lambda text: None)
-
-
-def is_running(process: int) -> bool:
-    try:
-        return pathlib.Path(f"/proc/{process}/stat").read_text().rsplit(")", 1)[1].split()[0] not in "ZX"
-    except (FileNotFoundError, ProcessLookupError):
-        return False
 
 
 class InTasks(InFolder):
@@ -167,7 +159,7 @@ class Folders(InTasks):
         words = self.words("60")
         with subprocess.Popen(words, cwd=TOP, env=SOURCES, stderr=subprocess.DEVNULL) as other:
             self.addCleanup(other.kill)
-            wait_for(lambda: (self.work / "run.json").exists())
+            wait_until(lambda: (self.work / "run.json").exists())
             with self.assertRaisesRegex(FolderFault, "another run is at work"), tasks.held(self.work):
                 pass
             other.kill()
@@ -220,14 +212,6 @@ class Folders(InTasks):
                 assert tasks.stamp(one) == tasks.stamp(one)
 
 
-def wait_for(condition: object, seconds: float = WAIT) -> None:
-    end = time.monotonic() + seconds
-    while not condition():
-        if time.monotonic() > end:
-            raise AssertionError(f"not within {seconds} seconds")
-        time.sleep(0.02)
-
-
 class WithProcesses(InTasks):
     def processes(self) -> set[int]:
         """The processes that did a task."""
@@ -240,12 +224,6 @@ class Engines(WithProcesses):
         engines.run(engine, work, folder, quiet())
         return list(folder.results())
 
-    def test_all_engines_have_one_result(self) -> None:
-        assert self.ran(engines.in_process, Reversing(self.marks)) == ENDS
-        assert self.processes() == {os.getpid()}
-        self.work = self.folder / "other"
-        assert self.ran(engines.several(2), Reversing(self.marks, seconds=0.01)) == ENDS
-
     def test_no_task_is_none_to_do(self) -> None:
         assert self.ran(engines.several(2), Refusing(), []) == []
 
@@ -257,11 +235,11 @@ class Engines(WithProcesses):
     def test_a_run_that_was_killed_leaves_no_process_and_goes_on(self) -> None:
         with subprocess.Popen(self.words("0.3"), cwd=TOP, env=SOURCES, stderr=subprocess.DEVNULL) as run:
             self.addCleanup(run.kill)
-            wait_for(lambda: len(list(self.work.glob("*.result"))) >= 3)
+            wait_until(lambda: len(list(self.work.glob("*.result"))) >= 3)
             os.kill(run.pid, signal.SIGKILL)
-        wait_for(lambda: not any(map(is_running, self.processes())))
+        wait_until(lambda: not any(map(is_running, self.processes())))
         done = 12 - len(TaskFolder(self.work).left())
-        again = subprocess.run(self.words("0"), cwd=TOP, env=SOURCES, capture_output=True, text=True, timeout=WAIT)
+        again = ran(*self.words("0"), cwd=TOP, env=SOURCES, timeout=WAIT)
         assert f"names: {done} of 12 tasks were done before\n" in again.stderr
         assert (again.returncode, list(TaskFolder(self.work).results())) == (0, ENDS)
 
@@ -270,18 +248,18 @@ class Engines(WithProcesses):
 class Dask(WithProcesses):
     def test_what_a_dead_worker_had_is_begun_again_and_no_process_is_left(self) -> None:
         words = self.words("0", "dask", "1")
-        run = subprocess.run(words, cwd=TOP, env=SOURCES, capture_output=True, text=True, timeout=DASK_WAIT)
+        run = ran(*words, cwd=TOP, env=SOURCES, timeout=DASK_WAIT)
         assert run.returncode == 0, run.stderr
         assert list(TaskFolder(self.work).results()) == ENDS, run.stderr
         assert len(list(self.marks.glob("death *"))) == 1
-        wait_for(lambda: not any(map(is_running, self.processes())))
+        wait_until(lambda: not any(map(is_running, self.processes())))
 
     def test_workers_end_with_a_run_that_is_killed(self) -> None:
         with subprocess.Popen(self.words("0.3", "dask"), cwd=TOP, env=SOURCES, stderr=subprocess.DEVNULL) as run:
             self.addCleanup(run.kill)
-            wait_for(lambda: len(list(self.work.glob("*.result"))) >= 3, DASK_WAIT)
+            wait_until(lambda: len(list(self.work.glob("*.result"))) >= 3, DASK_WAIT)
             os.kill(run.pid, signal.SIGKILL)
-        wait_for(lambda: not any(map(is_running, self.processes())))
+        wait_until(lambda: not any(map(is_running, self.processes())))
         folder = TaskFolder(self.work)
         done = [number for number in range(12) if number not in folder.left()]
         assert [folder.came_of(number) for number in done] == [ENDS[number] for number in done]
@@ -315,7 +293,7 @@ class OverCommand(InTasks):
     def test_dask_has_the_same_table(self) -> None:
         words = [*OVERLAY, "pairs", self.folder / "a.geojson", self.folder / "b.geojson", "--factor", "1", "--program",
                  Programs.features, "--processes", "2", "--at-once", "9", "--dask"]
-        run = subprocess.run(words, capture_output=True, text=True, timeout=DASK_WAIT, check=False)
+        run = ran(*words, timeout=DASK_WAIT)
         assert (run.returncode, run.stdout) == (0, self.table("--processes", 1)[1]), run.stderr
 
     def test_others_do_the_tasks(self) -> None:
@@ -379,11 +357,10 @@ class OverCommand(InTasks):
                  "--at-once", "9", "--processes", "1", "--work", self.work, "--program"]
         with subprocess.Popen([*map(str, words), str(slow)], stderr=subprocess.DEVNULL) as run:
             self.addCleanup(run.kill)
-            wait_for(lambda: len(list((self.work / "1").glob("*.result"))) >= 2)
+            wait_until(lambda: len(list((self.work / "1").glob("*.result"))) >= 2)
             run.kill()
         assert out.read_text() == "before"
-        done = subprocess.run([*map(str, words), str(Programs.features)], capture_output=True, text=True,
-                              timeout=2 * WAIT, check=True)
+        done = ran(*words, Programs.features, timeout=2 * WAIT, check=True)
         self.assertRegex(done.stderr, r"pairs 1: \d+ of \d+ tasks were done before")
         assert out.read_text() == self.table("--processes", 1)[1]
 
@@ -414,8 +391,7 @@ class Addresses(unittest.TestCase):
         with tempfile.TemporaryDirectory() as folder:
             sent = dask_engine.packed(pathlib.Path(folder))
             words = [sys.executable, "-c", "from overlayd.maps import replying; print(replying.__file__)"]
-            done = subprocess.run(words, cwd=folder, env={"PYTHONPATH": str(sent)}, capture_output=True, text=True,
-                                  check=True, timeout=SECONDS)
+            done = ran(*words, cwd=folder, env={"PYTHONPATH": str(sent)}, check=True)
             assert ".zip" in done.stdout
 
     def test_without_dask_or_keys_the_refusal_has_the_line_to_type(self) -> None:

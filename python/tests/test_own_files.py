@@ -12,7 +12,7 @@ import pytest
 
 from overlayd.commands import pieces
 from overlayd.files import gdal_writing
-from .common import OVERLAY, SECONDS, SOURCES, SQUARE, InFolder, Programs, outcome
+from .common import OVERLAY, SOURCES, SQUARE, InFolder, Programs, outcome, ran
 
 MINE = "mine\n"
 PLAN = ('{"type": "Feature", "properties": {"name": "plan"}, "geometry": {"type": "Polygon", '
@@ -21,8 +21,7 @@ PLAN = ('{"type": "Feature", "properties": {"name": "plan"}, "geometry": {"type"
 
 class OwnFiles(InFolder):
     def ran(self, tool: str, *words: object) -> tuple[int, str]:
-        done = subprocess.run([*OVERLAY, tool, *map(str, words)], capture_output=True, text=True,
-                              timeout=SECONDS, check=False)
+        done = ran(*OVERLAY, tool, *words)
         return done.returncode, done.stderr
 
     def test_files_beside_an_output_that_are_the_users(self) -> None:

@@ -3,9 +3,8 @@
 import os
 import pathlib
 import re
-import subprocess
 
-from .common import SECONDS, TOP, Programs, WithProgram
+from .common import TOP, Programs, WithProgram, ran
 
 PAGES = ("tasks.md", "beside-geos.md", "maps.md")
 
@@ -41,8 +40,7 @@ class Pages(WithProgram):
             commands = commands_of(pathlib.Path(TOP, "examples", page).read_text())
             assert len(commands) > 2
             for command, wanted in commands:
-                done = subprocess.run(["bash", "-c", command], cwd=self.folder, env=environment, capture_output=True,
-                                      text=True, check=False, timeout=SECONDS)
+                done = ran("bash", "-c", command, cwd=self.folder, env=environment)
                 assert done.stdout == wanted, f"{page}: {command}\n{done.stderr}"
 
     def test_every_script_of_the_pages_is_there(self) -> None:

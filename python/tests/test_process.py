@@ -17,11 +17,10 @@ import pytest
 
 from overlayd.commands import serve as overlay_web
 from overlayd.program import Server
-from overlayd.web.ogc_pages import PAGE
 from overlayd.words import words_of
 
 from . import testing
-from .common import SOURCES, TOP
+from .common import SOURCES, TOP, children
 from .stressing import asked
 
 pytestmark = pytest.mark.live
@@ -52,12 +51,6 @@ def running(*words: str | pathlib.Path, by: Sequence[str] = ()) -> Iterator[tupl
     finally:
         run.kill()
         run.communicate()
-
-
-def children(pid: int) -> list[int]:
-    """The processes that a process has begun and that have not ended."""
-    threads = pathlib.Path(f"/proc/{pid}/task").glob("*/children")
-    return [int(word) for thread in threads for word in thread.read_text().split()]
 
 
 class Processes(unittest.TestCase):
@@ -212,15 +205,6 @@ class Processes(unittest.TestCase):
                     assert (status, address) == (1, ""), words
                     assert (text[: len(told)], text.count("\n")) == (told, 1), text
 
-    def test_files_come_whole_and_in_part(self) -> None:
-        wanted = (PAGE / "map.js").read_bytes()
-        with running("--store", self.store) as (_, address):
-            with urllib.request.urlopen(f"{address}map.js") as whole:
-                assert (whole.read(), whole.headers["Content-Type"].split(";")[0]) == (wanted, "text/javascript")
-            given = urllib.request.Request(f"{address}map.js", headers={"Range": "bytes=100-"})
-            with urllib.request.urlopen(given) as rest:
-                assert (rest.status, rest.read()) == (206, wanted[100:])
-
     def test_words(self) -> None:
         for line in ("--store map.db --writable --host 0.0.0.0", "--writable --host ::", "", "--create",
                      "--store map.db --create", "--writable --host map.example.org", "--colour",
@@ -239,10 +223,3 @@ class Processes(unittest.TestCase):
             and overlay_web.is_loopback("localhost")
         )
         assert not (overlay_web.is_loopback("localhost.example") or overlay_web.is_loopback("0.0.0.0"))
-
-    def test_a_question_that_does_not_end_holds_up_no_other(self) -> None:
-        with running("--store", self.store, "--writable") as (_, address):
-            parts = urllib.parse.urlsplit(address)
-            with socket.create_connection((parts.hostname, parts.port or 80)) as stuck:
-                stuck.sendall(b"GET /status HTTP/1.1\r\nHost:")
-                assert asked(address, "GET", "/status")[0] == 200

@@ -5,7 +5,7 @@ import pty
 import subprocess
 import sys
 
-from .common import SECONDS, SOURCES, TOP, InFolder
+from .common import SECONDS, SOURCES, TOP, InFolder, ran
 from .test_layouts import geojson, square
 
 
@@ -34,13 +34,12 @@ class Progresses(InFolder):
         self.assertRegex(told, rb"rounding features:  *[0-9]+%.*/300 ")
 
     def test_nothing_elsewhere(self) -> None:
-        done = subprocess.run(self.call(), cwd=TOP, env=SOURCES, capture_output=True,
-                              text=True, check=True, timeout=SECONDS)
+        done = ran(*self.call(), cwd=TOP, env=SOURCES, check=True)
         assert (done.stdout, "features: " in done.stderr) == ("", False), done.stderr
 
     def test_a_package_that_is_missing_is_named(self) -> None:
         call = self.call("sys.modules['tqdm'] = None")
-        done = subprocess.run(call, cwd=TOP, env=SOURCES, capture_output=True, text=True, check=False, timeout=SECONDS)
+        done = ran(*call, cwd=TOP, env=SOURCES)
         told = "python3-tqdm is missing: apt-get install python3-tqdm, and run this by /usr/bin/python3"
         assert (done.returncode, done.stdout) == (1, "")
         assert done.stderr == f"overlay import: {told}\n"

@@ -1,12 +1,11 @@
 """The plugin of QGIS: its tests, in a process of their own, where QGIS is installed."""
 
 import os
-import subprocess
 import sys
 
 import pytest
 
-from .common import HAS_QGIS, TOP, Programs
+from .common import HAS_QGIS, TOP, Programs, ran
 
 SECONDS = 900
 
@@ -17,5 +16,5 @@ def test_the_tests_of_the_plugin_pass() -> None:
     environment = {**os.environ, "OVERLAY_FEATURES": str(Programs.features), "QT_QPA_PLATFORM": "offscreen"}
     command = [sys.executable, "-m", "pytest", "-q", "-p", "no:cacheprovider", "-c", "/dev/null", "--rootdir",
                str(TOP / "qgis" / "tests"), str(TOP / "qgis" / "tests")]
-    done = subprocess.run(command, env=environment, capture_output=True, text=True, timeout=SECONDS, check=False)
+    done = ran(*command, env=environment, timeout=SECONDS)
     assert done.returncode == 0, done.stdout[-4000:] + done.stderr[-1000:]

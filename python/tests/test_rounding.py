@@ -3,7 +3,6 @@ maps of `overlay pieces`, requests of the front, and the client; and that LOCATE
 
 import json
 import pathlib
-import subprocess
 from fractions import Fraction
 from typing import Any
 
@@ -14,7 +13,7 @@ from overlayd.files import gdal_files
 from overlayd.program import Server
 from overlayd.store.world import World
 from . import testing
-from .common import OVERLAY, Programs, outcome
+from .common import OVERLAY, Programs, outcome, ran
 from .testing import FrontCase
 
 pytestmark = pytest.mark.live
@@ -88,7 +87,7 @@ class OnePolygon(FrontCase):
             text = self.file(f"{name}.geojson", feature(corners))
             words = [*OVERLAY, "pieces", str(text), str(self.package(text)),
                      "--factor", "100", "--program", str(Programs.features)]
-            done = subprocess.run(words, capture_output=True, text=True, timeout=60, check=False)
+            done = ran(*words, timeout=60)
             assert done.returncode == 0, done.stderr
             _, row, *others = done.stdout.splitlines()
             assert (others, float(row.split(",")[2])) == ([], float(AREA)), done.stdout

@@ -8,10 +8,9 @@ import os
 import pathlib
 import signal
 import tempfile
-import time
 import unittest
 import urllib.parse
-from collections.abc import Callable, Iterator, Mapping
+from collections.abc import Iterator, Mapping
 from typing import Any, NamedTuple
 
 from overlayd.grid import scale as scales
@@ -21,6 +20,8 @@ from overlayd.web.layer_store import LayerStore
 from overlayd.web.map_scale import MapScale
 from overlayd.web.scratch import Scratch
 from overlayd.web.systems import Projection, Systems
+
+from .common import wait_until
 
 PROGRAM = "overlay_live"  # the one of --live
 HOST = "127.0.0.1:8080"
@@ -57,15 +58,6 @@ def square_store(folder: pathlib.Path) -> pathlib.Path:
     with Server(store, create=True, program=PROGRAM) as server:
         server.sessions[0].batch([f"PUT A {SQUARE}", "DEFINE I = A"])
     return store
-
-
-def wait_until(holds: Callable[[], bool], seconds: float = 60) -> None:
-    """Waits until something holds; an AssertionError where it does not in time."""
-    end = time.monotonic() + seconds
-    while not holds():
-        if time.monotonic() > end:
-            raise AssertionError("it has not come to be")
-        time.sleep(0.01)
 
 
 def stop(pid: int) -> None:

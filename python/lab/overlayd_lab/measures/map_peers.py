@@ -166,7 +166,7 @@ SELECT parcel, zone, ST_Area(ST_Intersection(p.geom, z.geom)) FROM p JOIN z ON S
 
 
 @contextlib.contextmanager
-def postgres() -> Iterator[str]:
+def postgres(*settings: str) -> Iterator[str]:
     """The folder of a server of its own. It does not run as root, so that it is the system's user for it then."""
     user = "postgres" if os.geteuid() == 0 else None
     with tempfile.TemporaryDirectory(prefix="peers") as place:
@@ -174,8 +174,8 @@ def postgres() -> Iterator[str]:
             os.chown(place, pwd.getpwnam(user).pw_uid, -1)
         quiet: dict[str, Any] = {"stdout": subprocess.DEVNULL, "stderr": subprocess.DEVNULL, "user": user, "cwd": place}
         subprocess.run([POSTGRES / "initdb", "-U", "postgres", "-D", f"{place}/data"], check=True, **quiet)
-        words: list[str | pathlib.Path] = [POSTGRES / "postgres", "-D", f"{place}/data", "-k", place, "-c",
-                                           "listen_addresses="]
+        words: list[str | pathlib.Path] = [POSTGRES / "postgres", "-D", f"{place}/data", "-k", place]
+        words += [word for one in ("listen_addresses=", *settings) for word in ("-c", one)]
         with subprocess.Popen(words, **quiet) as server:
             try:
                 while not pathlib.Path(f"{place}/.s.PGSQL.5432").exists() and server.poll() is None:

@@ -19,8 +19,6 @@ import os
 import pathlib
 import random
 import resource
-import shutil
-import struct
 import subprocess
 import sys
 import tempfile
@@ -32,7 +30,6 @@ from overlayd.kernel import Ask
 from overlayd.register.answers import Program
 from overlayd.register.beginning import engine_of, opened
 from overlayd.register.filling import keep
-from overlayd.register.geojson import geometry_of
 from overlayd.register.lasting import lasting
 from overlayd.register.model import Kept, Kind
 from overlayd.register.package import GeoPackage
@@ -41,8 +38,11 @@ from overlayd.register.registers import Register
 from overlayd.register.tables import Table
 from overlayd_lab import LAB, TOP
 from overlayd_lab.counting import Words
+from overlayd_lab.measures.map_peers import postgres
+from overlayd_lab.trials.register_edits import moved
 
 OVERLAY, PYTHON = str(TOP / "overlay"), "/usr/bin/python3"
+REACH = (900, (0.0,))  # millimetres that a corner is moved by at most, and off the grid
 ROUNDS = ((1, 100), (10, 20), (100, 5), (1000, 3))  # parcels of a transaction, and how often
 PEER = """CREATE INDEX ON parcels USING gist (geom); CREATE INDEX ON zones USING gist (geom); ANALYZE parcels, zones;
 CREATE TABLE peer AS SELECT p.fid AS a, z.fid AS b, ST_Area(ST_Intersection(p.geom, z.geom)) AS area
@@ -103,22 +103,13 @@ def children() -> list[int]:
     return [int(one) for path in pathlib.Path("/proc/self/task").glob("*/children") for one in path.read_text().split()]
 
 
-def moved(draw: random.Random, shape: bytes) -> bytes:
-    """A polygon with one corner moved by up to a metre."""
-    ring = (geometry_of(shape) or {})["coordinates"]
-    ring = ring[0] if isinstance(ring[0][0][0], float) else ring[0][0]
-    place, dx, dy = draw.randrange(len(ring) - 1), draw.randint(-900, 900) / 1000, draw.randint(-900, 900) / 1000
-    points = [(x + dx, y + dy) if at % (len(ring) - 1) == place else (x, y) for at, (x, y) in enumerate(ring)]
-    return struct.pack("<BIII", 1, 3, 1, len(points)) + b"".join(struct.pack("<2d", *one) for one in points)
-
-
 def edits(table: Table, count: int, draw: random.Random) -> None:
     """Moves a corner of so many parcels, in one transaction."""
     total = table.count()
     with table.engine.writing():
         for fid in draw.sample(range(1, total), count):
             item = table.item(fid)
-            table.update(fid, moved(draw, item.shape or b""), {})
+            table.update(fid, moved(draw, item.shape or b"", REACH), {})
 
 
 def told(what: str, took: Callable[[int], float]) -> None:
@@ -167,21 +158,9 @@ def register(folder: pathlib.Path, features: str) -> None:
 
 def peer(folder: pathlib.Path) -> None:
     """The pairs by triggers of PostGIS."""
-    own = ["runuser", "-u", "postgres", "--"] if os.geteuid() == 0 else []
-    binaries = max(pathlib.Path("/usr/lib/postgresql").glob("*/bin/initdb")).parent
-    home = pathlib.Path(tempfile.mkdtemp(prefix="pg"))
-    if own:
-        shutil.chown(home, "postgres")
-
-    def run(*words: object) -> None:
-        subprocess.run([*own, *map(str, words)], check=True, stdout=subprocess.DEVNULL)
-
-    run(binaries / "initdb", "-D", home / "data", "-A", "trust", "-U", "land", "-N", "-E", "UTF8", "--locale=C.UTF-8")
-    options = f"-k {home} -c listen_addresses= -c shared_buffers=512MB -c max_parallel_workers_per_gather=0"
-    run(binaries / "pg_ctl", "-D", home / "data", "-l", home / "log", "-w", "-o", options, "start")
-    try:
-        words = f"host={home} user=land dbname=postgres"
-        store = importlib.import_module("psycopg2").connect(words)
+    connect = importlib.import_module("psycopg2").connect
+    with (postgres("shared_buffers=512MB", "max_parallel_workers_per_gather=0") as place,
+          contextlib.closing(connect(words := f"host={place} user=postgres")) as store):
         store.autocommit = True
         cursor = store.cursor()
         cursor.execute("CREATE EXTENSION postgis")
@@ -200,7 +179,7 @@ def peer(folder: pathlib.Path) -> None:
             rows = []
             for fid in draw.sample(range(1, top), count):
                 cursor.execute("SELECT ST_AsBinary(geom) FROM parcels WHERE fid = %s", (fid,))
-                rows.append((moved(draw, bytes(cursor.fetchone()[0])), fid))
+                rows.append((moved(draw, bytes(cursor.fetchone()[0]), REACH), fid))
             began = nanoseconds(backend)
             cursor.execute("BEGIN")
             for row in rows:
@@ -209,10 +188,6 @@ def peer(folder: pathlib.Path) -> None:
             return (nanoseconds(backend) - began) / 1e6
 
         told("PostGIS by triggers, the edit among it", took)
-        store.close()
-    finally:
-        run(binaries / "pg_ctl", "-D", home / "data", "-m", "immediate", "stop")
-        shutil.rmtree(home)
 
 
 def main() -> int:

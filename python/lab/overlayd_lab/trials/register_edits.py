@@ -67,12 +67,12 @@ Written = list[tuple[str, int, str | None]]
 """Features that an edit has written: layer, key, and digest where they are not gone."""
 
 
-def moved(draw: random.Random, shape: bytes) -> bytes:
-    """A polygon with one corner moved by up to 3 m, on the grid of a millimetre or off it."""
+def moved(draw: random.Random, shape: bytes, by: tuple[int, tuple[float, ...]] = (3000, (0.0, 0.0, 0.0004))) -> bytes:
+    """A polygon with one corner moved by up to so many millimetres, on the grid of a millimetre or off it."""
     (ring,) = (geometry_of(shape) or {"coordinates": [[]]})["coordinates"][:1]
     ring = ring[0] if isinstance(ring[0][0], list) else ring
-    place, off = draw.randrange(len(ring) - 1), draw.choice((0.0, 0.0, 0.0004))
-    dx, dy = (draw.randint(-3000, 3000) / 1000 + off for _ in "xy")
+    place, off = draw.randrange(len(ring) - 1), draw.choice(by[1])
+    dx, dy = (draw.randint(-by[0], by[0]) / 1000 + off for _ in "xy")
     points = [(x + dx, y + dy) if at % (len(ring) - 1) == place else (x, y) for at, (x, y) in enumerate(ring)]
     return struct.pack("<BIII", 1, 3, 1, len(points)) + b"".join(struct.pack("<2d", *one) for one in points)
 
