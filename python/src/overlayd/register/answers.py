@@ -3,7 +3,7 @@
 from __future__ import annotations
 
 import dataclasses
-from collections.abc import Iterator
+from collections.abc import Callable, Iterator
 from dataclasses import dataclass
 from fractions import Fraction
 
@@ -26,12 +26,14 @@ from .taking import Problem, Taken
 
 NO_ANSWER = "no answer"
 CORE = "Core"  # what an expression calls all of a core
-CELLS_AT_ONCE = 200
+CELLS_AT_ONCE = 1000
 SQUARE = of_rings(np.array([0, 1, 1, 0]), np.array([0, 0, 1, 1]), np.array([4]), np.array([1]))
 Pair = tuple[int, int, str, float | None, float | None]
 """Places of two features, their relation, the common area and by how much it may be off."""
 Cell = tuple[int, int, float | None, float | None]
 """The numbers of a cell, an area within it and by how much it may be off."""
+Apart = Callable[[Features], Numbers]
+"""The pairs of features that are not to be in one layer."""
 
 
 @dataclass(frozen=True)
@@ -112,21 +114,25 @@ class Program:
         where not all do that meet a core."""
         names, known = sorted(maps), members or {}
         met = [known[name] if name in known else pairs(cores, maps[name].boxes()) for name in names]
-        asked = Maps([maps[name] for name in names], names, [self.apart(maps[name]) for name in names], expression)
+        asked = Maps([maps[name] for name in names], names, expression)
         for at in range(0, len(cores), CELLS_AT_ONCE):
             some = cores[at : at + CELLS_AT_ONCE]
             meet = [part_of(one, at, at + len(some)) for one in met]
-            for places, rows in self._within(asked, some, meet, wants):
+            for places, rows in self._within(asked, some, meet, wants, boxes_apart):
                 yield places + at, rows
 
-    def _within(self, maps: Maps, cores: Numbers, members: list[Numbers], wants: Wants
+    def _within(self, maps: Maps, cores: Numbers, members: list[Numbers], wants: Wants, apart: Apart
                 ) -> Iterator[tuple[Numbers, Rows | None]]:
-        """The same for some cores, whose halves are asked where the program refuses them or layers do not do."""
+        """The same for some cores, whose halves are asked where the program refuses them or layers do not do. Which
+        features are apart their boxes say; where these want more layers than an expression may name, the program."""
         try:
-            (found,) = self.ask.rows([maps.block(cores, members, wants)], 1)
+            (found,) = self.ask.rows([maps.block(cores, members, wants, apart)], 1)
             yield np.arange(len(cores)), found
             return
         except (BlockRefused, ProgramEnded, TooManyColours) as fault:
+            if apart is boxes_apart and not isinstance(fault, ProgramEnded):
+                yield from self._within(maps, cores, members, wants, self.apart)
+                return
             if len(cores) == 1:
                 if not isinstance(fault, TooManyColours):
                     self.need_to_work(fault)
@@ -135,29 +141,26 @@ class Program:
         middle = len(cores) // 2
         for begin, end in ((0, middle), (middle, len(cores))):
             own = [part_of(one, begin, end) for one in members]
-            for places, rows in self._within(maps, cores[begin:end], own, wants):
+            for places, rows in self._within(maps, cores[begin:end], own, wants, apart):
                 yield places + begin, rows
 
 
 @dataclass(frozen=True)
 class Maps:
-    """Maps in an order, their names, the pairs of each that overlap, and an expression over the names."""
+    """Maps in an order, their names, and an expression over the names."""
 
     maps: list[Features]
     names: list[str]
-    apart: list[Numbers]
     expression: str
 
-    def block(self, cores: Numbers, members: list[Numbers], wants: Wants) -> bytes:
-        """The block that asks what the expression is in some cores, of maps the pairs of cores and features."""
+    def block(self, cores: Numbers, members: list[Numbers], wants: Wants, apart: Apart) -> bytes:
+        """The block that asks what the expression is in some cores, of maps the pairs of cores and features. What is
+        apart is in different layers."""
         parts, jobs, layers, begun, unions = [], [], [], 0, {CORE: CORE}
-        for name, features, pairs_apart, meet in zip(self.names, self.maps, self.apart, members):
+        for name, features, meet in zip(self.names, self.maps, members):
             own, place = np.unique(meet[:, 1], return_inverse=True)
-            place_of = np.full(len(features), -1)
-            place_of[own] = np.arange(len(own))
-            near = place_of[pairs_apart]
-            colour = colours(len(own), near[(near >= 0).all(axis=1)], LAYERS - begun) + begun
             parts.append(features.part(own))
+            colour = colours(len(own), apart(parts[-1]), LAYERS - begun) + begun
             unions[name] = "(" + (" | ".join(map(name_of, np.unique(colour).tolist())) or "Core - Core") + ")"
             jobs.append((meet[:, 0], place))
             layers.append(colour)
@@ -173,6 +176,11 @@ class Maps:
         spelling = spelled(self.expression, unions).encode()
         asked = Asked(Kind.CELLS, np.concatenate(made), len(made), spelling, max(1, begun))
         return block(joined(parts), asked, wants)
+
+
+def boxes_apart(features: Features) -> Numbers:
+    """The features whose boxes have a common part."""
+    return pairs_within(features.boxes())
 
 
 def part_of(members: Numbers, begin: int, end: int) -> Numbers:

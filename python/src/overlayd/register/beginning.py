@@ -3,7 +3,7 @@
 from fractions import Fraction
 
 from . import statements
-from .engines import Engine
+from .engines import Engine, filled
 from .gridding import grid_for
 from .model import Layer, Refused, Rule, factor_of
 from .package import PATIENCE, GeoPackage
@@ -45,7 +45,8 @@ def begun(file: str, names: list[str], grid: str | None, idents: dict[str, str],
     for name in names:
         register.adopt(name, idents.get(name))
         layer = register.layer(name)
-        say(f"{name}: {len(register.engine.features(layer).fids)} features{others(register.engine, layer)}")
+        ((count,),) = register.engine.ask(filled(register.engine, statements.FEATURES, layer=layer))
+        say(f"{name}: {count} features{others(register.engine, layer)}")
 
 
 def others(engine: Engine, layer: Layer) -> str:

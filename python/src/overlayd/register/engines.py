@@ -2,6 +2,7 @@
 
 from __future__ import annotations
 
+import functools
 import hashlib
 from collections.abc import Iterable, Sequence
 from contextlib import AbstractContextManager
@@ -29,6 +30,7 @@ class Found:
     def column(self) -> Column:
         return of_bytes(self.shapes)
 
+    @functools.cached_property
     def digests(self) -> list[bytes]:
         """What tells each from what it was."""
         return [digest(shape, ident) for shape, ident in zip(self.shapes, self.idents)]
@@ -36,6 +38,8 @@ class Found:
     def part(self, keeps: Sequence[bool] | Numbers) -> Found:
         """Some of them."""
         own = np.flatnonzero(keeps).tolist()
+        if len(own) == len(self.fids):
+            return self
         return Found([self.fids[place] for place in own], [self.shapes[place] for place in own],
                      [self.idents[place] for place in own])
 
@@ -182,5 +186,5 @@ def filled(engine: Engine, text: str, kept: Kept | None = None, layer: Layer | N
     if kept is not None:
         names["result"] = engine.named(kept.table())
     if layer is not None:
-        names |= {"index": engine.named(layer.index()), "key": engine.named(layer.key)}
+        names |= {"index": engine.named(layer.index()), "key": engine.named(layer.key), "place": engine.place(layer)}
     return text.format(**names)

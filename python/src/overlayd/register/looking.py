@@ -29,7 +29,7 @@ def mark(register: Register, layer: Layer, say: Say) -> int:
     engine = register.engine
     seen = {fid: bytes(own) for fid, own in engine.ask(filled(engine, statements.DIGESTS, layer=layer))}
     found = engine.features(layer)
-    now = dict(zip(found.fids, found.digests()))
+    now = dict(zip(found.fids, found.digests))
     told = {fid for name, fid, _, kept in register.problems() if name == layer.name and kept is None}
     waits = {fid for _, name, fid in engine.ask(statements.PENDING) if name == layer.name}
     changed = [fid for fid in sorted(seen.keys() | now.keys()) if seen.get(fid) != now.get(fid) and fid not in waits]

@@ -22,8 +22,8 @@ from .engines import NOTHING, Engine, Found, filled
 from .looking import look_through
 from .model import Kept, Kind, Layer, Must, Refused, Rule
 from .registers import Register, Say, in_silence
-from .sides import (EMPTY, NO_BOXES, Row, Side, cell_rows, cells_touched, cores_of, pair_rows, side_of, together,
-                    with_few_cells)
+from .sides import (EMPTY, NO_BOXES, Row, Side, cell_rows, cells_touched, cores_of, pair_rows, side_of, sides_near,
+                    together, with_few_cells)
 from .taking import Problem
 from .violating import Violation, needed, violations
 from .violation_rows import affected, replaced
@@ -108,7 +108,7 @@ def read_changed(engine: Engine, work: Work, layer: Layer, fids: list[int]) -> N
     engine.many(statements.ADD_ASKED, [(fid,) for fid in fids])
     now = engine.features(layer, filled(engine, statements.IS_ASKED, layer=layer))
     seen = {row[0]: row[1:] for row in engine.ask(filled(engine, statements.SEEN, layer=layer))}
-    same = {fid for fid, own in zip(now.fids, now.digests()) if fid in seen and bytes(seen[fid][0]) == own}
+    same = {fid for fid, own in zip(now.fids, now.digests) if fid in seen and bytes(seen[fid][0]) == own}
     changed = now.part([fid not in same for fid in now.fids])
     side = side_of(changed, work.factor)
     were = np.array([row[1:] for fid, row in seen.items() if fid not in same], float).reshape(-1, 4)
@@ -152,8 +152,7 @@ def read_all_near(engine: Engine, work: Work, waits: bool = False) -> None:
         read_near(engine, work, layer, needed_near(work, layer), waits)
     covering = [rule for rule in work.rules if rule.must is Must.BE_COVERED and rule.b in work.sides]
     for rule in covering:  # what else covers a feature that lost some of its cover
-        sides = {name: with_near(work, name) for name in rule.layers()}
-        read_near(engine, work, work.layers[rule.b or ""], needed(rule, rule.b or "", sides), waits)
+        read_near(engine, work, work.layers[rule.b or ""], needed(rule, rule.b or "", with_near(work)), waits)
 
 
 def read_near(engine: Engine, work: Work, layer: Layer, boxes: Numbers, waits: bool) -> None:
@@ -166,17 +165,17 @@ def read_near(engine: Engine, work: Work, layer: Layer, boxes: Numbers, waits: b
         work.near[layer.name] = known.and_then(near.part([fid not in own for fid in near.fids]))
 
 
-def with_near(work: Work, name: str) -> Side:
-    """What has changed of a layer, and what is near."""
-    own, near = work.sides.get(name, EMPTY), work.near.get(name, NOTHING)
-    return together(own, side_of(near, work.factor, False)) if near.fids else own
+def with_near(work: Work) -> dict[str, Side]:
+    """What has changed of layers, and what is near."""
+    near = sides_near(work.near, work.factor)
+    return work.sides | {name: together(work.sides.get(name, EMPTY), own) for name, own in near.items()}
 
 
 def take_shapes(work: Work, program: Program) -> None:
     """Leaves out what the program refuses of what has changed, and puts what is near beside it."""
     for name, side in work.sides.items():
         work.sides[name] = dataclasses.replace(side, taken=program.accepted(side.taken))
-    work.sides |= {name: with_near(work, name) for name in work.near}
+    work.sides = with_near(work)
 
 
 def make_rows(work: Work, program: Program) -> None:
@@ -242,4 +241,4 @@ def write_seen(engine: Engine, work: Work, layer: Layer, fids: Numbers) -> None:
 def seen_rows(found: Found, boxes: Numbers, factor: Fraction) -> list[Row]:
     """Rows of an index: keys, digests, boxes."""
     return [(fid, own, *box) for fid, own, box in
-            zip(found.fids, found.digests(), off_grid(boxes, factor).tolist())]
+            zip(found.fids, found.digests, off_grid(boxes, factor).tolist())]

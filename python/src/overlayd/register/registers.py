@@ -81,7 +81,7 @@ class Register:
             self.engine.many(statements.ADD_LAYER, [(layer.name, layer.geom, layer.key, layer.ident, now())])
             self.engine.make_index(layer)
             self.engine.arm(layer)
-            self.engine.many(statements.ADD_PENDING, [(name, fid) for fid in self.engine.features(layer).fids])
+            self.engine.ask(filled(self.engine, statements.ADD_ALL_PENDING, layer=layer), name)
 
     def remove(self, name: str) -> None:
         """Takes a layer out of the register; its own table stays."""

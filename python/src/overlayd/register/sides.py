@@ -60,6 +60,18 @@ def side_of(found: Found, factor: Fraction, is_changed: bool = True) -> Side:
 EMPTY = side_of(NOTHING, Fraction(1))
 
 
+def sides_near(found: Mapping[str, Found], factor: Fraction) -> dict[str, Side]:
+    """Features of layers that have not changed, taken all at once: of a few it costs as much as of one layer's."""
+    fids, shapes, idents = ([one for own in found.values() for one in getattr(own, name)]
+                            for name in ("fids", "shapes", "idents"))
+    whole, begin, made = taken(Found(fids, shapes, idents).column(), factor), 0, {}
+    for name, own in found.items():
+        end = begin + len(own.fids)
+        made[name] = Side(own, whole.part(begin, end), np.zeros(len(own.fids), bool))
+        begin = end
+    return made
+
+
 def together(first: Side, second: Side) -> Side:
     """The features of two in one."""
     count = len(first.found.fids)

@@ -59,6 +59,12 @@ class Taken:
         found: Numbers = np.diff(self.features.feature_at) > 0
         return found
 
+    def part(self, begin: int, end: int) -> "Taken":
+        """The features from one to another."""
+        rings = slice(*self.features.feature_at[[begin, end]])
+        told = [(place - begin, what) for place, what in self.told if begin <= place < end]
+        return Taken(self.features.part(np.arange(begin, end)), self.is_outer[rings], told)
+
     def without(self, places: Numbers, what: str) -> "Taken":
         """The same without the shapes of some, of which it is told."""
         counts = np.diff(self.features.feature_at)
