@@ -9,7 +9,7 @@ use Rattle.layer_expr.specs.StepList.{Reached, evaluated}
 abbrev pub Bits : Type 0
 Bits = ℕ → Bool
 
--- the first of two features, the second, both, and each without the other
+-- what the first of two features has, what both have, and what each has alone
 abbrev pub of_first : Bits → Bool
 of_first bits = bits 0
 
