@@ -140,8 +140,8 @@ class WithProgram(InFolder):
 
     def setUp(self) -> None:
         super().setUp()
-        if Programs.live is None:
-            self.skipTest("no built overlay_live: --live names it")
+        if Programs.live is None or Programs.features is None:
+            self.skipTest("no built overlay_live or overlay_features: --live and --features name them")
         self.program: str = Programs.live
 
     def store(self, name: str, script: str | bytes) -> pathlib.Path:

@@ -14,7 +14,7 @@ from overlayd.api.pairing import PREDICATES
 from . import frames_made as made
 from . import slabs
 
-pytestmark = [pytest.mark.features, pytest.mark.usefixtures("named_program")]
+pytestmark = pytest.mark.features
 
 
 def wanted(predicate: str, first: Any, second: Any) -> bool:

@@ -22,7 +22,7 @@ from . import frames_made as made
 from .common import SOURCES, TOP
 
 MAPS = TOP / "examples" / "maps"
-pytestmark = [pytest.mark.features, pytest.mark.usefixtures("named_program")]
+pytestmark = pytest.mark.features
 
 
 def same(own: Any, theirs: Any) -> None:

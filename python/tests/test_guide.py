@@ -21,7 +21,7 @@ GUIDE = TOP / "docs" / "guide"
 INDEX, IN_QGIS, COMPLAINTS = "README.md", "in-qgis.md", "complaints.md"  # the last two have tests of their own
 FIRST_SCREEN = "../../README.md"
 PAGES = sorted(page.name for page in GUIDE.glob("*.md"))
-pytestmark = [pytest.mark.features, pytest.mark.usefixtures("named_program")]
+pytestmark = pytest.mark.features
 
 
 def run_commands(text: str, environment: dict[str, str]) -> int:

@@ -11,10 +11,9 @@ from typing import Any
 from overlayd.commands import export as to_geojson, import_ as to_script, rings as to_rings, which
 from overlayd.geometry import wkt
 from overlayd.geometry.plane import turn
-from overlayd.geometry.rings import polygons_of
 from overlayd.store.layers import rings_of_text
 from .common import WithProgram, outcome, path
-from .plain import area_twice, below, on, overlay, segments_of
+from .plain import Corner, area_twice, below, on, overlay, segments_of
 from .test_layouts import geojson, zigzag
 
 COUNTIES = path("data", "north_carolina.geojson")
@@ -94,12 +93,15 @@ class RoundTrips(WithProgram):
         script = (self.folder / "map.txt").read_text() + "DEFINE both = iceland_110m & iceland_50m\n"
         store = self.store("both.db", script)
         layers = [[ring[:-1] for ring in rings_of_text(line)] for line in script.splitlines() if line[:4] == "PUT "]
-        wanted = polygons_of(overlay(layers, "&"))
-        told = outcome(to_rings, "--store", store, "--program", self.program, "--exact")[1]
-        rings = [ring for polygon in wanted for ring in polygon]
-        corners = [(Fraction(x, w), Fraction(y, w)) for ring in rings for x, y, w in ring.corners]
-        got = [tuple(map(Fraction, line.split())) for line in told.splitlines() if not line.startswith("polygon")]
-        assert (len(wanted), got) == (2, corners)
+        beside: dict[Corner, list[Corner]] = {}  # at each end of a piece the others of the pieces there
+        for one, other in overlay(layers, "&"):
+            beside.setdefault(one, []).append(other)
+            beside.setdefault(other, []).append(one)
+        corners = [(Fraction(x, w), Fraction(y, w)) for (x, y, w), (one, other) in beside.items()
+                   if turn(one, (x, y, w), other)]
+        told = outcome(to_rings, "--store", store, "--program", self.program, "--exact")[1].splitlines()
+        got = [tuple(map(Fraction, line.split())) for line in told if not line.startswith("polygon")]
+        assert (told[0], sorted(got)) == ("polygons 2", sorted(corners))
 
 
 class Counties(WithProgram):

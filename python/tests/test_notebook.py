@@ -13,7 +13,7 @@ from overlayd.commands import check, derive, pairs, pieces
 
 from .common import TOP, Programs, outcome
 
-pytestmark = [pytest.mark.features, pytest.mark.usefixtures("named_program")]
+pytestmark = pytest.mark.features
 PARCELS, ZONES = (str(TOP / "examples" / "maps" / f"{name}.geojson") for name in ("parcels", "zones"))
 GRID = "0.001"
 Rows = list[dict[str, str]]

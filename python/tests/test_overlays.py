@@ -1,7 +1,6 @@
-"""Tests of the joining of pieces, over random layers and the plain overlay, and of the program beside it."""
+"""Tests of polygons and pieces of random layers beside the plain overlay."""
 
 import random
-import time
 import unittest
 from collections.abc import Callable
 from fractions import Fraction
@@ -10,9 +9,9 @@ from typing import Any
 from overlayd.geometry import wkt
 from overlayd.geometry.areas import Ring, area_of_all
 from overlayd.geometry.plane import turn
-from overlayd.geometry.rings import polygons_of
-from overlayd.program import Piece, Point as Corner
-from overlayd.store import layers
+from overlayd.program import Point as Corner
+from overlayd.program_files import FEATURES, found_program
+from overlayd.store import layers, outlines
 from overlayd.store.opening import opened
 from .common import WithProgram
 from .plain import OPERATIONS, area_twice, below, homogeneous, on, overlay, random_rings, segments_of
@@ -60,55 +59,22 @@ def check(test: unittest.TestCase, layers: list[Any], inside: Callable[..., bool
             test.assertEqual(sum(within), 1 if expected else 0)
 
 
-class PlainOverlay(unittest.TestCase):
-    def test_random_layers(self) -> None:
-        source = random.Random(20)
-        for number in range(120):
-            reach = 5 if number % 2 else 14
-            layers = [random_rings(source, reach), random_rings(source, reach)]
-            operation = "&|-^"[number % 4]
-            check(self, layers, OPERATIONS[operation], polygons_of(overlay(layers, operation)))
-
-
-def ring_pieces(corners: list[tuple[int, int]]) -> list[Piece]:
-    """The pieces of a ring that nothing else meets."""
-    pairs = [sorted(pair) for pair in zip(corners, corners[1:] + corners[:1])]
-    return [((ax, ay, 1), (bx, by, 1)) for (ax, ay), (bx, by) in pairs]
-
-
-def square(x: int, y: int, half: int) -> list[tuple[int, int]]:
-    return [(x - half, y - half), (x + half, y - half), (x + half, y + half), (x - half, y + half)]
-
-
-def diamond(x: int, y: int, half: int) -> list[tuple[int, int]]:
-    return [(x - half, y), (x, y - half), (x + half, y), (x, y + half)]
-
-
-class ManyRings(unittest.TestCase):
-    """Rings in numbers for which comparing each with each would take minutes: processor seconds are looked at."""
-
-    def polygons(self, rings: list[list[tuple[int, int]]]) -> list[list[Ring]]:
-        pieces = [piece for ring in rings for piece in ring_pieces(ring)]
-        begin = time.process_time()
-        found = polygons_of(pieces)
-        assert time.process_time() - begin < 10
-        return found
-
-    def test_nested_rings(self) -> None:
-        for shape in (square, diamond):
-            polygons = self.polygons([shape(0, 0, half) for half in range(1, 1201)])
-            halves = [[max(x for x, _, _ in ring.corners) for ring in polygon] for polygon in polygons]
-            assert halves == [[half, half - 1] for half in range(1200, 0, -2)]
-
-    def test_scattered_holes_and_islands(self) -> None:
-        places = [(8 * i, 8 * j) for i in range(60) for j in range(60)]
-        rings = [shape(x, y, half) for x, y in places for shape, half in ((square, 3), (diamond, 2))]
-        polygons = self.polygons([square(240, 240, 300), *rings])
-        assert sorted(len(polygon) for polygon in polygons) == [1] * 3600 + [3601]
-        assert [len(polygon) for polygon in polygons if polygon[0].corners[0] == (-60, -60, 1)] == [3601]
+def polygons_of(given: list[Any], operation: str) -> list[list[Ring]]:
+    """What the program joins of an operation on two layers."""
+    base = {name: [ring + ring[:1] for ring in rings] for name, rings in zip("AB", given)}
+    made = layers.Layers([*"ABC"], base, {"C": f"A {operation} B"})
+    return outlines.polygons(made, "C", found_program(FEATURES))
 
 
 class ProgramBeside(WithProgram):
+    def test_polygons_of_random_layers(self) -> None:
+        source = random.Random(20)
+        for number in range(120):
+            reach = 5 if number % 2 else 14
+            given = [random_rings(source, reach), random_rings(source, reach)]
+            operation = "&|-^"[number % 4]
+            check(self, given, OPERATIONS[operation], polygons_of(given, operation))
+
     def test_the_program_gives_the_same_pieces(self) -> None:
         source = random.Random(21)
         for number in range(12):
@@ -121,4 +87,6 @@ class ProgramBeside(WithProgram):
             pieces, missing = layers.pieces_of(columns)
             assert missing == []
             assert sorted(pieces) == sorted(overlay(given, operation))
-            check(self, given, OPERATIONS[operation], polygons_of(pieces))
+            corners = {corner for polygon in polygons_of(given, operation)
+                       for ring in polygon for corner in ring.corners}
+            assert corners <= {end for piece in pieces for end in piece}

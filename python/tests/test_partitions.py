@@ -14,8 +14,7 @@ import overlayd
 from . import frames_made as made
 
 dask = pytest.importorskip("dask", reason="python3-dask is not installed")
-pytestmark = [pytest.mark.features, pytest.mark.usefixtures("named_program"),
-              pytest.mark.filterwarnings("ignore:.keep_geom_type=True:UserWarning")]
+pytestmark = [pytest.mark.features, pytest.mark.filterwarnings("ignore:.keep_geom_type=True:UserWarning")]
 
 
 def bricks(seed: int, angle: float) -> Any:

@@ -3,41 +3,51 @@
 import unittest
 import xml.etree.ElementTree
 from fractions import Fraction
+from typing import Any
+
+import pytest
 
 from overlayd.commands import svg
 from overlayd.grid import limits, scale
 from overlayd.program import layer_of
-from overlayd.store.layers import Layers
+from overlayd.program_files import FEATURES, found_program
+from overlayd.store import outlines
+from overlayd.store.layers import Columns, Layers
 from .common import SQUARE, content, fixture
 
 
-class Pictures(unittest.TestCase):
-    def picture(self, layer: str) -> tuple[str, list[str]]:
-        layers, columns = fixture("shapes")
-        faults: list[str] = []
-        return svg.picture(layers, layer, columns.get(layer, ["none"] * limits.COLUMNS), 800, faults.append), faults
+pytestmark = pytest.mark.features
 
+
+def picture(layers: Layers, layer: str, columns: Columns, *more: Any, **named: Any) -> str:
+    polygons = outlines.polygons(layers, layer, found_program(FEATURES))
+    return svg.picture(layers, layer, columns, polygons, 800, *more, **named)
+
+
+class Pictures(unittest.TestCase):
     def test_a_picture_is_xml(self) -> None:
+        layers, columns = fixture("shapes")
         for layer in ("I", "F", "Bow", "Ring", "Chain", "None0", "Far"):
-            text, faults = self.picture(layer)
-            assert faults == []
+            text = picture(layers, layer, columns[layer])
             assert xml.etree.ElementTree.fromstring(text).tag.endswith("svg")
 
     def test_columns_and_their_pieces(self) -> None:
-        text, _ = self.picture("Ring")
+        layers, columns = fixture("shapes")
+        text = picture(layers, "Ring", columns["Ring"])
         for column in ("column 13: ", "column 15: ", "column 16: ", "column 18: "):
             assert column in text
 
-    def test_a_column_that_lacks_is_reported(self) -> None:
-        text, faults = self.picture("A")
-        assert len(faults) == limits.COLUMNS
+    def test_columns_that_lack(self) -> None:
+        layers, _ = fixture("shapes")
+        text = svg.picture(layers, "A", ["none"] * limits.COLUMNS, None, 800)
+        assert ": ?" in text
         xml.etree.ElementTree.fromstring(text)
 
     def test_a_base_layer(self) -> None:
         columns = [[] for _ in range(limits.COLUMNS)]
         columns[16] = [((0, 0, 1), (0, 10, 1)), ((0, 0, 1), (10, 0, 1)), ((0, 10, 1), (10, 10, 1)),
                        ((10, 0, 1), (10, 10, 1))]
-        text = svg.picture(Layers.of([layer_of(f"A {SQUARE}")]), "A", columns, 800, self.fail)
+        text = picture(Layers.of([layer_of(f"A {SQUARE}")]), "A", columns)
         assert ">boundary of A</text>" in text
         xml.etree.ElementTree.fromstring(text)
 
@@ -45,13 +55,13 @@ class Pictures(unittest.TestCase):
         # The view is 10.5 wide; a fifth of that in tenths of a foot is 0.21 ft, so the bar is of 0.2 ft, 2 wide.
         foot = scale.Scale(Fraction(10), Fraction(10), unit="ft")
         layers, columns = fixture("shapes")
-        text = svg.picture(layers, "I", columns["I"], 800, self.fail, foot)
+        text = picture(layers, "I", columns["I"], foot)
         assert ">0.2 ft; lower left 0 0, upper right 1.5 1.5</text>" in text
 
     def test_a_grid(self) -> None:
         layers, columns = fixture("shapes")
         for rows, counts in ((["...+", ".##+", ".##+", "++++"], [4, 7, 5]), ([".#+"], [1, 1, 1])):
-            text = svg.picture(layers, "I", columns["I"], 800, self.fail, grid=(4, 4, 2, rows))
+            text = picture(layers, "I", columns["I"], grid=(4, 4, 2, rows))
             assert [text.count(f'r="{size}"') for size in ("2", "2.2", "0.7")] == counts
 
     def test_the_grid_that_is_asked_for(self) -> None:
@@ -62,5 +72,4 @@ class Pictures(unittest.TestCase):
 
     def test_the_picture_of_the_pages(self) -> None:
         layers, columns = fixture("iceland")
-        assert svg.picture(layers, "both", columns["both"], 800, self.fail).encode() == \
-            content("..", "..", "docs", "overlay.svg")
+        assert picture(layers, "both", columns["both"]).encode() == content("..", "..", "docs", "overlay.svg")

@@ -106,18 +106,6 @@ class Processes(unittest.TestCase):
             os.kill(found[0], signal.SIGKILL)
             assert self.ended(run) == (1, "overlay_live has ended with status -9\n")
 
-    def test_it_ends_where_the_program_of_base_layers_has_ended(self) -> None:
-        with running("--store", self.store, "--writable") as (run, address):
-            assert asked(address, "GET", "/collections/A/items")[0] == 200
-            found = [
-                pid for pid in children(run.pid)
-                if pathlib.Path(f"/proc/{pid}/cmdline").read_text().startswith(f"{testing.PROGRAM}\0/dev/fd/")
-            ]
-            assert len(found) == 1
-            os.kill(found[0], signal.SIGKILL)
-            told = "overlay_live, by which base layers are worked out, has ended with status -9\n"
-            assert self.ended(run) == (1, told)
-
     def test_a_copy_takes_the_place_of_a_store_that_is_not_written_any_more(self) -> None:
         program = testing.program_that_ignores_a_full_file(self.folder)
         with running("--store", self.store, "--writable", "--program", program) as (run, address):

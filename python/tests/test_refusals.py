@@ -4,8 +4,8 @@ import contextlib
 import functools
 import io
 import json
-import multiprocessing
-import signal
+import os
+import pathlib
 import threading
 import time
 import unittest
@@ -15,10 +15,10 @@ from collections.abc import Callable
 import pytest
 
 from overlayd.program import Ended, Refused, Server
+from overlayd.program_files import FEATURES, found_program
 from overlayd.web import front, layer_store
 from overlayd.web.layer_store import LayerStore
 from overlayd.web.pages import BODY_MOST
-from overlayd.web.scratch import Scratch
 from overlayd.web.views import View
 from . import testing
 from .testing import SHIFTED, SQUARE, Client, FrontCase, Told
@@ -272,9 +272,8 @@ class Failures(unittest.TestCase):
 
     def setUp(self) -> None:
         self.server = self.enterContext(Server(sessions=4, program=testing.PROGRAM, timeout=60))
-        scratch = self.enterContext(Scratch(testing.PROGRAM, 60))
-        self.scratch = scratch
-        self.store = LayerStore(self.server, scratch, testing.map_scale(), version=0, kept=False, writable=True)
+        self.features = found_program(FEATURES)
+        self.store = LayerStore(self.server, self.features, testing.map_scale(), version=0, kept=False, writable=True)
         self.addCleanup(self.store.close)
         self.client = Client(front.of_store(self.store))
         self.client.change("/collections/A", "PUT", GEOMETRY)
@@ -303,20 +302,17 @@ class Failures(unittest.TestCase):
         assert self.client.get("/locate?x=5&y=2")["places"]["I"] == "in"
         assert self.lost() == ["1 of 2 sessions for questions"]
 
-    def test_a_layer_that_is_being_built_is_asked_again_later(self) -> None:
-        """Its items wait for no reply of WAIT, which holds a session for as long as the layer takes."""
-        self.enterContext(unittest.mock.patch.object(layer_store, "BUILDING", 0.1))
+    def test_a_layer_that_is_being_built_has_its_items(self) -> None:
+        """They wait for no reply of WAIT, which holds a session for as long as the layer takes."""
         built = threading.Event()
         for one in self.server.sessions:
             self.enterContext(unittest.mock.patch.object(one, "wait", side_effect=lambda name: built.wait(60)))
         self.addCleanup(built.set)
         with unittest.mock.patch.object(View, "columns", side_effect=lambda name, columns: [[], *[None] * 32]):
             for _ in range(4):
-                found = self.client.ask("/collections/I/items")
-                assert (found.status, found.headers["Retry-After"]) == (503, "1")
-                assert "is being built" in found.value["description"]
+                assert self.client.get("/collections/I/tiles")["tiles"][1]["lines"] is None
+                assert self.client.get("/collections/I/items")["numberMatched"] == 1
                 self.client.change("/collections/N", "PUT", {"definition": "A"})
-        assert self.client.get("/collections/I/items")["numberMatched"] == 1
         assert not built.is_set()
 
     def test_a_change_whose_reply_is_late_ends_the_front(self) -> None:
@@ -344,15 +340,19 @@ class Failures(unittest.TestCase):
             assert (found.status, found.value["code"]) == (503, "503")
         assert self.client.ask("/collections/N", "PUT", {"definition": "A"}).status == 503
 
+    def joins_by(self, text: str) -> None:
+        """Has a script join in the place of the program."""
+        self.store._features = str(self.enterContext(testing.folder()) / "joining")
+        pathlib.Path(self.store._features).write_text(f"#!/bin/sh\n{text}\n")
+        os.chmod(self.store._features, 0o700)
+
     def test_a_joining_process_that_is_killed_is_begun_anew(self) -> None:
-        self.client.get("/collections/I/items")
-        for child in multiprocessing.active_children():
-            child.kill()
-            child.join()
-        self.client.change("/collections/I", "PUT", {"definition": "A | A"})
-        statuses = [self.client.ask("/collections/I/items").status for _ in range(3)]
-        assert statuses[-1] == 200
-        assert set(statuses) <= {200, 503}
+        self.joins_by("kill -9 $$")
+        found = self.client.ask("/collections/I/items")
+        assert (found.status, found.headers["Retry-After"]) == (503, "1")
+        assert "has been killed" in found.value["description"]
+        self.store._features = self.features
+        assert self.client.get("/collections/I/items")["numberMatched"] == 1
 
     def test_a_layer_of_too_many_pieces_is_refused(self) -> None:
         self.enterContext(unittest.mock.patch.object(layer_store, "PIECES_MOST", 2))
@@ -392,11 +392,11 @@ class Failures(unittest.TestCase):
         store = self.enterContext(testing.folder()) / "map.db"
         for number in range(6):
             with Server(store, create=number == 0, sessions=2, program=testing.PROGRAM, timeout=60) as server:
-                kept = LayerStore(server, self.scratch, testing.map_scale(), version=number, kept=True, writable=True)
+                kept = LayerStore(server, self.features, testing.map_scale(), version=number, kept=True,
+                                  writable=True)
                 assert list(kept.layers()) == [f"L{n}" for n in range(number)]
                 assert (kept.change([f"PUT L{number} {SQUARE}"]), kept.durable) == (number + 1, number + 1)
                 server.process.kill()
-                kept.close()
 
     def test_a_change_without_a_reply_may_have_been_made(self) -> None:
         assert len(self.client.get("/collections")["collections"]) == 2
@@ -407,8 +407,8 @@ class Failures(unittest.TestCase):
         assert len(self.client.get("/collections")["collections"]) == 3
 
     def test_one_thread_joins_for_all_that_ask(self) -> None:
-        real = self.store._join
-        counted = self.enterContext(unittest.mock.patch.object(self.store, "_join", side_effect=real))
+        real = self.store._joined_now
+        counted = self.enterContext(unittest.mock.patch.object(self.store, "_joined_now", side_effect=real))
         threads = [threading.Thread(target=self.client.get, args=("/collections/I/items",)) for _ in range(8)]
         for one in threads:
             one.start()
@@ -416,44 +416,39 @@ class Failures(unittest.TestCase):
             one.join()
         assert counted.call_count == 1
 
-    def test_polygons_of_another_revision_are_asked_again(self) -> None:
-        """The layer changes after its revision was read and before its pieces are: they are not kept as those of it."""
-        before = self.store.layer("I")
-        self.client.change("/collections/A", "PUT", GEOMETRY | {"coordinates": []})
-        with unittest.mock.patch.object(self.store, "layer", side_effect=[before, self.store.layer("I")]) as asked:
-            assert self.client.get("/collections/I/items")["numberMatched"] == 0
-        assert asked.call_count == 2
-
     def test_work_that_takes_too_long_is_killed_and_others_go_on(self) -> None:
-        self.client.get("/collections/I/items")
-        self.client.change("/collections/I", "PUT", {"definition": "A | A"})
-        (joiner,) = multiprocessing.active_children()
-        testing.stop(joiner.pid or 0)  # as one whose work has no end
-        self.enterContext(unittest.mock.patch.object(self.store._joiners, "seconds", 0.3))
-        self.store._joiners._free.get()  # the other one: all work goes to the stopped one
-        found = self.client.ask("/collections/I/items")
+        self.joins_by("echo $$ > $0.pid; exec sleep 600")
+        with unittest.mock.patch.object(layer_store, "JOINING", 0.3):
+            found = self.client.ask("/collections/I/items")
         assert found.status == 413
-        told = ("I has 3 pieces that take longer, and up to 200000 pieces are joined, within 0.3 seconds: ask for its "
-                "tiles")
+        told = "I takes longer, and up to 200000 pieces are joined, within 0.3 seconds: ask for its tiles"
         assert found.value["description"] == told
-        assert multiprocessing.active_children() == []
-        self.store._joiners.seconds = 60
+        pid = pathlib.Path(f"{self.store._features}.pid").read_text().strip()
+        assert not pathlib.Path(f"/proc/{pid}").exists()
+        self.store._features = self.features
         assert self.client.ask("/collections/I/items").status == 413
-        assert self.client.get("/collections/A/items")["numberMatched"] == 1
+        self.client.change("/collections/B", "PUT", GEOMETRY | {"coordinates": []})
+        assert self.client.get("/collections/B/items")["numberMatched"] == 0
         with unittest.mock.patch.object(layer_store, "FORGOTTEN", 0):
             assert self.client.get("/collections/I/items")["numberMatched"] == 1
 
-    def test_a_base_layer_that_takes_too_long_is_given_up_and_others_go_on(self) -> None:
-        process = self.scratch._server.process
-        testing.stop(process.pid)
-        self.scratch._server.sessions[0]._wire.timeout = self.scratch.seconds = 0.3
-        found = self.client.ask("/collections/A/items")
-        assert found.status == 413
-        assert "than the 0.3 seconds that they are given" in found.value["description"]
-        assert process.wait(60) == -signal.SIGKILL
-        self.scratch._server.sessions[0]._wire.timeout = 60
+    def test_work_ends_with_the_front(self) -> None:
+        self.joins_by("exec sleep 600")
+        asked = threading.Thread(target=self.client.ask, args=("/collections/I/items",))
+        asked.start()
+        testing.wait_until(lambda: self.store._joining._value < layer_store.JOINED_AT_ONCE)
+        self.store.close()
+        asked.join(60)
+        assert not asked.is_alive()
+
+    def test_a_definition_that_is_too_long_is_told(self) -> None:
         self.client.change("/collections/B", "PUT", GEOMETRY | {"coordinates": []})
-        assert self.client.get("/collections/B/items")["numberMatched"] == 0
+        for number in range(6):
+            name = f"L{number - 1}" if number else "B"
+            self.client.change(f"/collections/L{number}", "PUT", {"definition": f"({name} & A) | ({name} - A)"})
+        found = self.client.ask("/collections/L5/items")
+        assert found.status == 413
+        assert "more than 64 names and signs" in found.value["description"]
 
     def test_statuses_of_refusals(self) -> None:
         for number, status in ((10, 404), (11, 409), (21, 409), (7, 400), (20, 400), (31, 503), (40, 503)):

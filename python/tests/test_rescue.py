@@ -13,7 +13,6 @@ from overlayd.web import rescue
 from overlayd.web.front import of_store
 from overlayd.web.layer_store import LayerStore
 from overlayd.web.rescue import Rescue, put_copy
-from overlayd.web.scratch import Scratch
 from . import testing
 from .testing import SQUARE, Client
 
@@ -69,10 +68,9 @@ class Rescues(unittest.TestCase):
         self.path = folder / "map.db"
         program = str(testing.program_that_ignores_a_full_file(folder))
         self.server = self.enterContext(Server(self.path, create=True, sessions=4, program=program, timeout=60))
-        scratch = self.enterContext(Scratch(program, 60))
         self.ended, self.reasons = threading.Event(), list[str]()
-        self.store = LayerStore(self.server, scratch, testing.map_scale(), version=0, kept=True, writable=True,
-                                rescue=Rescue(self.path, program, self.end))
+        self.store = LayerStore(self.server, "overlay_features", testing.map_scale(), version=0, kept=True,
+                                writable=True, rescue=Rescue(self.path, program, self.end))
         self.addCleanup(self.store.close)
         self.client = Client(of_store(self.store))
         self.store.change([f"PUT A {SQUARE}"])

@@ -2,7 +2,6 @@
 
 import unittest
 
-from overlayd.ending import Unusable
 from overlayd.program import Layer, layer_of
 from overlayd.store import layers
 from overlayd.store.layers import Layers
@@ -41,5 +40,3 @@ class StoreLayers(unittest.TestCase):
         _, columns = fixture("shapes")
         pieces, missing = layers.pieces_of([*columns["I"][:20], "error 22 oversize", *columns["I"][21:]])
         assert (len(pieces), missing) == (4, [(20, "error 22 oversize")])
-        with self.assertRaisesRegex(Unusable, "^A: column 0: no; column 1: no; column 2: no; and 30 more$"):
-            layers.polygons("A", ["no"] * 33)

@@ -15,10 +15,10 @@ from typing import Any, NamedTuple
 
 from overlayd.grid import scale as scales
 from overlayd.program import Server
+from overlayd.program_files import FEATURES, found_program
 from overlayd.web.front import Front, of_store
 from overlayd.web.layer_store import LayerStore
 from overlayd.web.map_scale import MapScale
-from overlayd.web.scratch import Scratch
 from overlayd.web.systems import Projection, Systems
 
 from .common import wait_until
@@ -137,12 +137,11 @@ class FrontCase(unittest.TestCase):
     @classmethod
     def setUpClass(cls) -> None:
         cls.server = cls.enterClassContext(Server(sessions=4, program=PROGRAM, timeout=60))
-        scratch = cls.enterClassContext(Scratch(PROGRAM, 60))
         version = 0
         if cls.lines:
             with cls.server.session() as one:
                 version = one.batch(cls.lines)
-        cls.store = LayerStore(cls.server, scratch, map_scale(**cls.scale), version=version, kept=False,
+        cls.store = LayerStore(cls.server, found_program(FEATURES), map_scale(**cls.scale), version=version, kept=False,
                                writable=cls.writable)
         cls.addClassCleanup(cls.store.close)
         cls.front = of_store(cls.store, systems=Systems(cls.store.scale, cls.projection))

@@ -21,8 +21,9 @@ PROGRAM_HELP = ("{}, which is asked (default: that of crates/*/out of this repos
 
 
 def found_program(name: str = LIVE) -> str:
-    """The program where it is there; else it is built, where that can be done."""
-    found = program_there(name)
+    """The program that a variable named as it is in capitals says, else where it is there; else it is built, where that
+    can be done."""
+    found = os.environ.get(name.upper()) or program_there(name)
     if found:
         return found
     if (TOP / BUILDER).is_file() and shutil.which("rt"):

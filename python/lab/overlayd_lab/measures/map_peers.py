@@ -24,7 +24,6 @@ import time
 from collections.abc import Callable, Iterator
 from typing import Any, NamedTuple
 
-from overlayd.api.asking import VARIABLE
 from overlayd_lab import LAB, TOP
 from overlayd_lab.counting import Words
 from overlayd_lab.measures.qgis_peers import Process
@@ -111,7 +110,7 @@ def peer(name: str, program: str, folder: pathlib.Path, table: pathlib.Path) -> 
     else:
         import geopandas
 
-        os.environ[VARIABLE] = program
+        os.environ["OVERLAY_FEATURES"] = program
         rows = READERS[name](*(geopandas.read_file(folder / f"{kind}.gpkg") for kind in ("parcels", "zones")))
     with table.open("w", newline="") as file:
         csv.writer(file).writerows(row for row in rows if row[2] > 0)

@@ -1,17 +1,14 @@
 """How the functions ask: which program, and which grid, by the words of who calls them."""
 
 import contextlib
-import os
 from collections.abc import Iterator
 from fractions import Fraction
 
 from ..grid_pass.default_grid import Unit
 from ..kernel import Ask, Grid, Wants
 from ..kernel.rows import BlockRefused
-from ..program_files import found_program
+from ..program_files import FEATURES, found_program
 
-FEATURES = "overlay_features"
-VARIABLE = "OVERLAY_FEATURES"  # names the program, where it is not at its place
 UNREADABLE, NO_OUTLINES = 76, 84  # faults of a block
 GridSize = float | str | Fraction | Grid | None
 
@@ -41,11 +38,6 @@ class NoAnswer(Exception):
         self.fault = fault
 
 
-def program_of(named: str | None) -> str:
-    """The program that is named, by the caller or the environment, else where it is found."""
-    return named or os.environ.get(VARIABLE) or found_program(FEATURES)
-
-
 def grid_of(size: GridSize, unit: Unit) -> Grid:
     """The grid of a size in units of the maps, as 0.001 or "1/3"; the default one where none is said."""
     if size is None or isinstance(size, Grid):
@@ -61,7 +53,7 @@ def grid_of(size: GridSize, unit: Unit) -> Grid:
 
 def asked(program: str | None, size: GridSize, unit: Unit, wants: Wants) -> Ask:
     """What is asked of the program."""
-    return Ask(program_of(program), wants, grid_of(size, unit))
+    return Ask(program or found_program(FEATURES), wants, grid_of(size, unit))
 
 
 @contextlib.contextmanager

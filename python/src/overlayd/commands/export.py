@@ -31,7 +31,7 @@ from ..files import coordinate_systems, gdal_files, writing
 from ..geometry import areas
 from ..geometry.areas import Ring
 from ..grid import scale as scales
-from ..store import keeping, layers
+from ..store import keeping
 from ..store.opening import is_store
 from ..words import FILE, Words, flag, option, subcommand
 from . import store_layers
@@ -63,8 +63,8 @@ def feature(found: Map, layer: str, kind: str, coordinates: str, rings: list[Rin
 
 def features(found: Map, words: Words) -> Iterator[str]:
     """A feature for each layer, or for each of its polygons; with its pieces as rings."""
-    for layer, columns in progress.bar("joining layers", len(found.columns), found.columns.items()):
-        polygons = layers.polygons(layer, columns)
+    for layer in progress.bar("joining layers", len(found.names), found.names):
+        polygons = found.polygons(layer)
         texts = [polygon_text(polygon, found.scale) for polygon in polygons]
         if words.parts:
             for polygon, text in zip(polygons, texts, strict=True):
@@ -83,7 +83,7 @@ def text_of(found: Map, words: Words) -> str:
 
 def write(found: Map, words: Words) -> int:
     if words.top:
-        found.columns = {name: found.columns[name] for name in found.layers.unnamed() if name in found.columns}
+        found.names = [name for name in found.layers.unnamed() if name in found.names]
     put(text_of(found, words), found.scale, words)
     return 0
 

@@ -18,8 +18,8 @@ with --exact:
     area 8.333333 25/3
 
 Coordinates and areas are those of the world where a scale is there. A base layer has the boundary of its even-odd
-inside. Status 0: all rings are written; 1: the store cannot be read, a column is missing or oversize, or the output
-cannot be written."""
+inside. overlay_features joins them: the variable OVERLAY_FEATURES names it where it is not at its place. Status 0: all
+rings are written; 1: the store cannot be read, a layer has no rings to give, or the output cannot be written."""
 
 import sys
 from collections.abc import Iterator
@@ -27,7 +27,6 @@ from collections.abc import Iterator
 from ..geometry import areas, wkt
 from ..geometry.areas import Ring
 from ..grid.scale import Scale, decimals, spelled_exactly
-from ..store import layers
 from ..words import Words, flag, subcommand
 from . import store_layers
 from .store_layers import Map
@@ -74,7 +73,7 @@ def command(words: Words) -> int:
 
 
 def write(found: Map, words: Words) -> int:
-    (polygons,) = (layers.polygons(name, columns) for name, columns in found.columns.items())
+    polygons = found.polygons(*found.names)
     lines_of = area_lines if words.areas else exact_lines if words.exact else text_lines
     sys.stdout.write("".join(line + "\n" for line in list(lines_of(polygons, found, words))))
     holes = sum(len(polygon) - 1 for polygon in polygons)

@@ -1,39 +1,41 @@
 """The layers of a store that a subcommand works on, and the words that subcommands have for them."""
 
-import contextlib
 import pathlib
 import sys
-from collections.abc import Callable, Iterable
+from collections.abc import Callable
 from dataclasses import dataclass, field
 from fractions import Fraction
 
 import click
 
 from ..ending import Unusable
+from ..geometry.areas import Ring
 from ..grid import scale as scales
-from ..program import Refused, Session
-from ..program_files import found_program
-from ..store.layers import Columns, Layers, columns_of, digests
+from ..program import Session
+from ..program_files import FEATURES, found_program
+from ..store import outlines
+from ..store.layers import Layers, digests
 from ..store.opening import layers_of, opened
 from ..words import FILE, NUMBER, PROGRAM, Words, option
 
-GIVEN, ASKED = "given", "asked"
-Grid = tuple[int, int, int, list[str]]  # x, y, step, rows
-GridFor = Callable[[Layers], tuple[int, ...] | None]
+More = Callable[[Session, Layers, list[str]], None]  # asks more of the layers that are named, while the store is open
 Writer = Callable[["Map", Words], int]  # writes what was asked for, as the words say, and gives the status
 
 
 @dataclass
 class Map:
-    """What a subcommand works on: all layers, the columns of those that were asked for, in their order, the scale, and
+    """What a subcommand works on: all layers, the names of those that were asked for, in their order, the scale, and
     what to report of it."""
 
     layers: Layers
-    columns: dict[str, Columns]
+    names: list[str]
     scale: scales.Scale
     scaled_by: pathlib.Path | None = None
     notes: list[str] = field(default_factory=list)
-    grid: Grid | None = None
+
+    def polygons(self, name: str) -> list[list[Ring]]:
+        """The polygons of a layer."""
+        return outlines.polygons(self.layers, name, found_program(FEATURES))
 
 
 def words(many: bool = False) -> tuple[click.Option, ...]:
@@ -79,36 +81,10 @@ def scale_beside(store: pathlib.Path, named: pathlib.Path | None) -> tuple[scale
         raise Unusable(str(fault)) from fault
 
 
-def columns_in(session: Session, program: str, layers: Layers, names: Iterable[str]) -> dict[str, Columns]:
-    """The columns of layers. Those of base layers are asked in memory, each of a definition that is its name alone."""
-    texts, found = {one.name: one.text for one in session.layers()}, dict[str, Columns]()
-    with contextlib.ExitStack() as open_ones:
-        memory: Session | None = None
-        for name in names:
-            if (text := texts[name]) is None:
-                found[name] = columns_of(session, name)
-            else:
-                memory = memory or open_ones.enter_context(opened(program))
-                found[name] = columns_of(memory, ASKED, [f"PUT {GIVEN} {text}", f"DEFINE {ASKED} = {GIVEN}"])
-    return found
-
-
-def grid_in(session: Session, name: str, given: tuple[int, ...] | None) -> Grid | None:
-    """The answers of a GRID of a layer, given by x, y, step, nx and ny; none where it gives none."""
-    if given is None:
-        return None
-    x, y, step, across, up = given
-    try:
-        return x, y, step, session.grid(name, x, y, step, across, up)
-    except Refused:
-        return None
-
-
-def map_of(words: Words, many: bool = False, grid: GridFor | None = None) -> Map:
+def map_of(words: Words, many: bool = False, more: More | None = None) -> Map:
     """All that the words ask for."""
     scale, file = scale_of(words)
-    program = words.program or found_program()
-    with opened(program, words.store) as session:
+    with opened(words.program or found_program(), words.store) as session:
         layers = layers_of(session)
         if not layers.order:
             raise Unusable(f"{words.store}: it has no layer")
@@ -117,12 +93,12 @@ def map_of(words: Words, many: bool = False, grid: GridFor | None = None) -> Map
         for name in names:
             if name not in layers.order:
                 raise Unusable(f"{name}: no layer has this name")
-        columns = columns_in(session, program, layers, names)
-        answers = grid_in(session, names[0], grid(layers)) if grid else None
+        if more:
+            more(session, layers, names)
     notes = [f"coordinates of the world by {file}"] if file else []
     if file and not words.scale:
         notes += other_layers(words.store, layers, file, scale)
-    return Map(layers, columns, scale, file, notes, answers)
+    return Map(layers, names, scale, file, notes)
 
 
 def other_layers(path: pathlib.Path, layers: Layers, file: pathlib.Path, scale: scales.Scale) -> list[str]:
@@ -138,10 +114,10 @@ def other_layers(path: pathlib.Path, layers: Layers, file: pathlib.Path, scale: 
     return [f"{path}: {what}: {file} was written for other ones"]
 
 
-def run(words: Words, write: Writer, many: bool = False, grid: GridFor | None = None) -> int:
+def run(words: Words, write: Writer, many: bool = False, more: More | None = None) -> int:
     """Runs a subcommand: asks for the map, says its notes, and has it written."""
     try:
-        found = map_of(words, many, grid)
+        found = map_of(words, many, more)
         for note in found.notes:
             print(note, file=sys.stderr)
         return write(found, words)

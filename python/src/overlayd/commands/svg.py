@@ -10,22 +10,25 @@ to a hundredth of a unit.
 
 Status 0: the picture is whole; 1: it is not, there is none, or it cannot be written."""
 
+import contextlib
 import html
 import math
 import sys
-from collections.abc import Callable
 from typing import Any
 
 import click
 
 from ..geometry.areas import Ring
-from ..geometry.rings import polygons_of
 from ..grid import limits, scale as scales
-from ..program import Piece, Point as Corner
-from ..store.layers import Columns, Layers, pieces_of
+from ..program import Piece, Point as Corner, Refused, Session
+from ..program_files import found_program
+from ..store.layers import Columns, Layers, columns_of, pieces_of
+from ..store.opening import opened
 from ..words import Words, option, subcommand
 from . import store_layers
-from .store_layers import Grid, Map
+from .store_layers import Map
+
+Grid = tuple[int, int, int, list[str]]  # x, y, step, rows
 
 COLOURS = ("#1f77b4", "#d9730d", "#2a8f4d", "#9c3fb0", "#8a6d3b", "#0f8b8d", "#c2407a", "#5c6470")
 INK = "#111111"
@@ -134,18 +137,6 @@ def legend(view: View, names: list[str], text: str) -> tuple[list[str], float]:
     return found, y
 
 
-def joined(layer: str, answers: Columns, say: Callable[[str], None]
-           ) -> tuple[list[Piece], list[int | str], list[list[Ring]] | None]:
-    """The pieces, how many each column has, and the polygons, None where they can't be joined."""
-    pieces, missing = pieces_of(answers)
-    counts: list[int | str] = ["?" if isinstance(answer, str) else len(answer) for answer in answers]
-    for column, reason in missing:
-        say(f"{layer}: column {column} is not drawn: {reason}")
-    if missing:
-        return pieces, counts, None
-    return pieces, counts, polygons_of(pieces)
-
-
 def corners(view: View, scale: scales.Scale) -> str:
     """The places of the world in the lower left and the upper right of the picture, to a hundredth of its width."""
     digits = max(0, 2 - math.floor(math.log10((view.right - view.left) / float(scale.factor))))
@@ -166,10 +157,11 @@ def bar(view: View, scale: scales.Scale, y: float) -> list[str]:
             f'{html.escape(text)}; {corners(view, scale)}</text>']
 
 
-def picture(layers: Layers, layer: str, answers: Columns, width: int, say: Callable[[str], None],
+def picture(layers: Layers, layer: str, answers: Columns, polygons: list[list[Ring]] | None, width: int,
             scale: scales.Scale | None = None, grid: Grid | None = None) -> str:
-    """The whole picture of a layer, as text."""
-    pieces, counts, polygons = joined(layer, answers, say)
+    """The whole picture of a layer, as text; without polygons its boundary is not filled."""
+    pieces, _ = pieces_of(answers)
+    counts: list[int | str] = ["?" if isinstance(answer, str) else len(answer) for answer in answers]
     names = layers.base_in_reach(layer)
     points: list[Any] = [point for name in names for ring in layers.base[name] for point in ring]
     view = View(points + [(x / w, y / w) for piece in pieces for x, y, w in piece], width)
@@ -188,7 +180,7 @@ def picture(layers: Layers, layer: str, answers: Columns, width: int, say: Calla
     return "\n".join([head, '<rect width="100%" height="100%" fill="#ffffff"/>'] + body + lines + ["</svg>", ""])
 
 
-def grid_for(layers: Layers, count: int) -> tuple[int, ...] | None:
+def grid_for(layers: Layers, count: int) -> tuple[int, int, int, int, int] | None:
     """A GRID of about so many points across, over all base layers, as x, y, step, nx, ny."""
     points = [point for rings in layers.base.values() for ring in rings for point in ring]
     if not points:
@@ -206,17 +198,33 @@ def grid_for(layers: Layers, count: int) -> tuple[int, ...] | None:
     option("--width", "of the picture, 100 or more (default 800)", click.IntRange(100), default=800),
     *store_layers.scale_words())
 def command(words: Words) -> int:
-    count = words.points
+    answers, grids = Columns(), list[Grid]()
+
+    def ask(session: Session, layers: Layers, names: list[str]) -> None:
+        (name,) = names
+        answers.extend(columns_in(session, layers, name, words.program or found_program()))
+        if words.points and (question := grid_for(layers, words.points)):
+            with contextlib.suppress(Refused):
+                grids.append((*question[:3], session.grid(name, *question)))
 
     def write(found: Map, _: Words) -> int:
-        faults: list[str] = []
-        ((layer, answers),) = found.columns.items()
-        if count and not found.grid:
-            faults.append(f"{layer}: it gave no grid")
+        (layer,) = found.names
+        faults = [f"{layer}: it gave no grid"] * (bool(words.points) and not grids)
+        faults += [f"{layer}: column {column} is not drawn: {reason}" for column, reason in pieces_of(answers)[1]]
+        polygons = None if any(isinstance(answer, str) for answer in answers) else found.polygons(layer)
         scale = found.scale if found.scaled_by or words.factor or words.origin else None
-        sys.stdout.write(picture(found.layers, layer, answers, words.width, faults.append, scale, found.grid))
+        sys.stdout.write(picture(found.layers, layer, answers, polygons, words.width, scale, *grids))
         for text in faults:
             print(text, file=sys.stderr)
         return 1 if faults else 0
 
-    return store_layers.run(words, write, grid=(lambda layers: grid_for(layers, count)) if count else None)
+    return store_layers.run(words, write, more=ask)
+
+
+def columns_in(session: Session, layers: Layers, name: str, program: str) -> Columns:
+    """The columns of a layer. Those of a base layer are asked in memory, of a definition that is its name alone."""
+    if name in layers.definitions:
+        return columns_of(session, name)
+    (text,) = (one.text for one in session.layers() if one.name == name)
+    with opened(program) as memory:
+        return columns_of(memory, "asked", [f"PUT given {text}", "DEFINE asked = given"])

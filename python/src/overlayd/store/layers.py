@@ -7,8 +7,6 @@ from dataclasses import dataclass, field
 
 from ..ending import Unusable
 from ..files.rounding import Ring
-from ..geometry import areas
-from ..geometry.rings import polygons_of
 from ..program import COLUMNS, Layer, Piece, Session, edges_lines
 
 NAME = "[A-Za-z][A-Za-z0-9_]*"
@@ -103,12 +101,3 @@ def pieces_of(columns: Columns) -> tuple[list[Piece], list[tuple[int, str]]]:
     """All pieces of a layer, and the columns that gave none, each with the reason."""
     pieces = [piece for column in columns if not isinstance(column, str) for piece in column]
     return pieces, [(number, column) for number, column in enumerate(columns) if isinstance(column, str)]
-
-
-def polygons(name: str, columns: Columns) -> list[list[areas.Ring]]:
-    """The polygons of a layer, or Unusable where a column has no pieces to give."""
-    pieces, missing = pieces_of(columns)
-    if missing:
-        reasons = "; ".join(f"column {column}: {reason}" for column, reason in missing[:3])
-        raise Unusable(f"{name}: {reasons}" + (f"; and {len(missing) - 3} more" if len(missing) > 3 else ""))
-    return polygons_of(pieces)

@@ -14,18 +14,23 @@ from collections.abc import Callable, Mapping
 from fractions import Fraction
 from typing import Any, NamedTuple
 
-from ..geometry.rings import polygons_of
 from ..grid import scale as scales
-from ..program import Server, Session
+from ..program import UNKNOWN_LAYER, Refused, Server, Session
+from ..program_files import FEATURES, found_program
+from . import outlines
+from .layers import Layers
 
 Ring = list[tuple[Fraction, Fraction]]
 """The corners of a ring, the first of them not repeated, with the inside on its left."""
 
 
-def rings(session: Session, name: str) -> list[list[Ring]]:
-    """Waits for a derived layer, and gives its polygons: each an outer ring, counter-clockwise, and its holes."""
+def rings(session: Session, name: str, program: str | None = None) -> list[list[Ring]]:
+    """The polygons of a layer: each an outer ring, counter-clockwise, and its holes. program: overlay_features."""
+    layers = Layers.of(session.layers())
+    if name not in layers.order:
+        raise Refused(UNKNOWN_LAYER, "unknown layer")
     return [[[(Fraction(x, w), Fraction(y, w)) for x, y, w in ring.corners] for ring in polygon]
-            for polygon in polygons_of(session.boundary(name).pieces)]
+            for polygon in outlines.polygons(layers, name, program or found_program(FEATURES))]
 
 
 class Text(NamedTuple):

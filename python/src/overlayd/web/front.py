@@ -17,8 +17,7 @@ from werkzeug.routing import BaseConverter
 from ..program import NAME, Ended, Refused
 from . import schemas
 from .features_api import FeaturesApi
-from .joining import TooLarge
-from .layer_store import WAITING_MOST, Changed, LayerStore, NotDurable, Pending
+from .layer_store import WAITING_MOST, Changed, LayerStore, NotDurable, TooLarge
 from .map_api import MapApi
 from .ogc_pages import PAGE, OgcPages
 from .opened_registers import Lost
@@ -89,7 +88,7 @@ def refused(fault: Exception) -> Response:
             return refusal(413, 413, str(fault))
         case Changed() | Unplaced():
             return refusal(409, 409, str(fault))
-        case Busy() | Pending():
+        case Busy():
             return refusal(503, 503, str(fault), {"Retry-After": "1"})
         case NotWritten():
             return refusal(503, 503, str(fault), {"Retry-After": f"{AGAIN:.0f}"})

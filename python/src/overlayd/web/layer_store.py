@@ -5,21 +5,23 @@ text, or its definition with the revisions of the layers that this names. So a c
 worked out for others, and a revision that comes again finds its polygons again."""
 
 import contextlib
-import functools
 import threading
 import time
 from collections.abc import Callable, Iterator, Mapping, Sequence
 from typing import NamedTuple, cast
 
+from ..ending import Unusable
 from ..geometry.plane import Box
-from ..grid import limits
-from ..program import OVERSIZE, Ended, Piece, Refused, Server, Session, number_of
+from ..kernel.layered import NoAnswer
+from ..kernel.rows import BlockRefused
+from ..kernel.running import Cancelled, ProgramEnded
+from ..program import Ended, Refused, Server, Session, number_of
+from ..store import outlines
+from ..store.layers import Layers
 from . import shapes
-from .joining import Joiners, TooLarge
 from .kept_values import Kept
 from .map_scale import MapScale
 from .rescue import NotWritten, Rescue
-from .scratch import Scratch
 from .views import Busy, Hold, Listed, Places, View, listed
 
 PIECES_MOST = 200_000
@@ -30,19 +32,19 @@ WAITING_MOST = 12
 PATIENCE = 120.0
 """How many seconds a question waits for polygons that are joined."""
 JOINING = 60.0
-"""How many seconds the pieces of one layer may take to be joined, and the rings of a base layer to become pieces."""
+"""How many seconds overlay_features may take for the polygons of one layer."""
+JOINED_AT_ONCE, ENDING = 2, 2.0
+"""How many layers are joined at once, and how many seconds these have to end with the front."""
 TURN = 10.0
 """How many seconds a question or a change waits for its turn."""
-BUILDING, LOOK = 5.0, 0.03
-"""How many seconds a question waits for a layer that is being built, and how many pass between two looks."""
 LOST = 300.0
 """After how many seconds without a reply a session is lost, and not only late."""
 FORGOTTEN = 600.0
 """How many seconds it is known that a layer was too large."""
 
 
-class Pending(Exception):
-    """A layer is being built."""
+class TooLarge(Exception):
+    """A layer is more than is joined: it has more pieces, or takes more seconds, or its definition is too long."""
 
 
 class Changed(Exception):
@@ -70,14 +72,15 @@ class Joined(NamedTuple):
 class LayerStore:
     """The layers of a process. The process has no other sessions than those of `server`, so versions are counted here.
 
-    version: the number that the process began with, and kept: whether it is the number of a file. rescue: what is begun
-    where the file is not written any more. end: called with the reason where the front cannot go on."""
+    features: the program that joins. version: the number that the process began with, and kept: whether it is the
+    number of a file. rescue: what is begun where the file is not written any more. end: called with the reason where
+    the front cannot go on."""
 
-    def __init__(self, server: Server, scratch: Scratch, scale: MapScale, *, version: int, kept: bool, writable: bool,
+    def __init__(self, server: Server, features: str, scale: MapScale, *, version: int, kept: bool, writable: bool,
                  rescue: Rescue | None = None, end: Callable[[str], None] = lambda reason: None) -> None:
         self.scale, self.kept, self.writable = scale, kept, writable
         self.version = self.durable = version
-        self._server, self._scratch = server, scratch
+        self._server, self._features = server, features
         self._rescue, self._end, self._gone = rescue, end, cast("str | None", None)
         self._salt = scale.scale.text()
         self._hold = Hold()
@@ -85,11 +88,15 @@ class LayerStore:
         self._joined: Kept[str, Joined] = Kept(KEPT_MOST, Joined.weight)
         self._extents: Kept[str, list[Box]] = Kept(REVISIONS_MOST, lambda _: 1)
         self._too_large: Kept[str, tuple[float, str]] = Kept(REVISIONS_MOST, lambda _: 1)
-        self._joiners, self._reminding, self._noting = Joiners(JOINING), threading.Lock(), threading.Lock()
+        self._joining, self._is_over = threading.BoundedSemaphore(JOINED_AT_ONCE), threading.Event()
+        self._reminding, self._noting = threading.Lock(), threading.Lock()
         self.places = Places(WAITING_MOST)
 
     def close(self) -> None:
-        self._joiners.close()
+        """Ends what is joined."""
+        self._is_over.set()
+        for _ in range(JOINED_AT_ONCE):
+            self._joining.acquire(timeout=ENDING)
 
     # ---- what there is
 
@@ -113,88 +120,50 @@ class LayerStore:
         with self.view() as view:
             return view.layer(name)
 
-    # ---- boundaries
+    # ---- polygons
 
     def joined(self, name: str, revision: str | None = None) -> Joined:
-        """The polygons of a layer, at a revision that was reported before or the present one;
-        Pending if it is not built."""
+        """The polygons of a layer, at a revision that was reported before or the present one."""
         held = self._joined.get(revision) if revision else None
-        end = time.monotonic() + PATIENCE
-        while held is None:
-            found = self.layer(name)
-            if revision not in (None, found.revision):
-                raise Changed(f"{name} has changed since revision {revision}")
-            self._check_size(found.revision)
-            try:
-                held = self._joined.made(found.revision, functools.partial(self._join, found), PATIENCE, self.places)
-            except Changed:
-                if time.monotonic() > end:
-                    raise
-        return held
-
-    def _check_size(self, revision: str) -> None:
-        """A revision that was too large is so again, for a while: a machine that was busy is not so for ever."""
-        known = self._too_large.get(revision)
-        if known and time.monotonic() - known[0] < FORGOTTEN:
+        if held:
+            return held
+        with self.view() as view:
+            found, layers = view.layer(name), Layers.of(view.layer(one).layer for one in view.reached(name))
+        if revision not in (None, found.revision):
+            raise Changed(f"{name} has changed since revision {revision}")
+        known = self._too_large.get(found.revision)
+        if known and time.monotonic() - known[0] < FORGOTTEN:  # a machine that was busy is not so for ever
             raise TooLarge(known[1])
-
-    @contextlib.contextmanager
-    def _noted_size(self, revision: str) -> Iterator[None]:
         try:
-            yield
+            return self._joined.made(found.revision, lambda: Joined(found.revision, self._joined_now(layers, name)),
+                                     PATIENCE, self.places)
         except TooLarge as fault:
-            self._too_large.put(revision, (time.monotonic(), str(fault)))
+            self._too_large.put(found.revision, (time.monotonic(), str(fault)))
             raise
 
-    def _join(self, found: Listed) -> Joined:
-        with self._noted_size(found.revision):
-            pieces = self._built_pieces(found) if found.layer.text is None else self._base_pieces(found.layer.text)
-            return Joined(found.revision, self._features(found.layer.name, pieces))
-
-    def _features(self, name: str, pieces: list[Piece]) -> list[shapes.Feature]:
-        most = f"up to {PIECES_MOST} pieces are joined, within {self._joiners.seconds:g} seconds: ask for its tiles"
-        if len(pieces) > PIECES_MOST:
-            raise TooLarge(f"{name} has {len(pieces)} pieces, and {most}")
+    def _joined_now(self, layers: Layers, name: str) -> list[shapes.Feature]:
+        """The polygons of a layer, numbered from 1 in the order of their least corners."""
+        if not self._joining.acquire(timeout=JOINING):
+            raise Busy("other layers are being joined: ask again")
+        most = f"up to {PIECES_MOST} pieces are joined, within {JOINING:g} seconds: ask for its tiles"
+        end = time.monotonic() + JOINING
         try:
-            return self._joiners.features(pieces, self.scale)
-        except TimeoutError:
-            raise TooLarge(f"{name} has {len(pieces)} pieces that take longer, and {most}") from None
+            row = outlines.row_of(layers, name, self._features,
+                                  lambda _: time.monotonic() < end and not self._is_over.is_set())
+            if (pieces := int(row.rows["pieces"][0])) > PIECES_MOST:
+                raise TooLarge(f"{name} has {pieces} pieces, and {most}")
+            return [shapes.Feature(number, [ring.corners for ring in rings], self.scale)
+                    for number, rings in enumerate(outlines.polygons_of(row), 1)]
+        except Cancelled:
+            raise TooLarge(f"{name} takes longer, and {most}") from None
+        except (Unusable, BlockRefused, NoAnswer) as fault:
+            raise TooLarge(f"{fault}: ask for its tiles") from fault
+        except ProgramEnded as fault:
+            raise Busy("the process that joined it has been killed, as for its memory: ask again") from fault
+        finally:
+            self._joining.release()
 
-    def _base_pieces(self, text: str) -> list[Piece]:
-        """The boundary of the inside of a text."""
-        seconds = self._scratch.seconds
-        try:
-            return self._scratch.pieces(text, TURN)
-        except TimeoutError:
-            raise TooLarge(f"its rings take longer than the {seconds:g} seconds that they are given") from None
-        except Refused as fault:
-            if fault.number != OVERSIZE:
-                raise
-            raise TooLarge(f"its rings have more than {limits.PIECES_MAX} pieces in one column") from fault
-
-    def _built_pieces(self, found: Listed) -> list[Piece]:
-        """All pieces of a derived layer. Waits BUILDING seconds for it, by no session, as that could last for ever."""
-        columns: dict[int, list[Piece]] = {}
-        end = time.monotonic() + BUILDING
-        while not self._add_built(found, columns):
-            if time.monotonic() > end:
-                self._remind(found.layer.name)
-                raise Pending(f"{found.layer.name} is being built: ask again")
-            time.sleep(LOOK)
-        return [piece for column in sorted(columns) for piece in columns[column]]
-
-    def _add_built(self, found: Listed, columns: dict[int, list[Piece]]) -> bool:
-        """Adds the columns that are built by now, and says whether these are all. Of one revision each is the same."""
-        with self.view() as view:
-            if view.layer(found.layer.name).revision != found.revision:
-                raise Changed(f"{found.layer.name} changes all the time")
-            missing = [column for column in range(limits.COLUMNS) if column not in columns]
-            for column, pieces in zip(missing, view.columns(found.layer.name, missing)):
-                if pieces is not None:
-                    columns[column] = pieces
-        return len(columns) == limits.COLUMNS
-
-    def _remind(self, name: str) -> None:
+    def remind(self, name: str) -> None:
         """Has tiles tried again that were given back for want of memory: WAIT does so, and is answered at once.
 
         Of others it is answered when they are built. So it is asked by a thread of its own, and one at a time."""
@@ -202,7 +171,6 @@ class LayerStore:
             threading.Thread(target=self._wait, args=(name,), daemon=True).start()
 
     def _wait(self, name: str) -> None:
-        """Asks WAIT of a layer once, so that tiles given back for want of memory are tried again."""
         try:  # an OSError or a ValueError where its files are closed meanwhile
             with contextlib.suppress(Refused, Ended, OSError, ValueError):
                 with self._server.session(slow=True, timeout=0) as one:

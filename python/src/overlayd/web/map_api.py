@@ -86,6 +86,8 @@ class MapApi:
         with self.store.view() as view:
             revision = view.layer(name).revision
             found = view.columns(name, columns)
+        if None in found:
+            self.store.remind(name)
         return sent({"revision": revision, "tiles": [self._tile(*one) for one in zip(columns, found)]})
 
     def _tile(self, column: int, pieces: list[Piece] | None) -> dict[str, object]:

@@ -1,7 +1,6 @@
 """Runs a front as the words of its command say: what it opens, what ends it, and with which status."""
 
 import contextlib
-import multiprocessing
 import os
 import shutil
 import signal
@@ -21,12 +20,11 @@ from ..register.model import Refused as RegisterRefused
 from ..words import Words
 from .by_waitress import serve
 from .front import of_register, of_store
-from .layer_store import JOINING, LayerStore, number_in_file
+from .layer_store import LayerStore, number_in_file
 from .map_scale import MapScale
 from .opened_registers import Lost, OpenedRegisters
 from .register_api import RegisterApi, scale_of as scale_of_register
 from .rescue import Rescue
-from .scratch import Scratch
 from .serving import Unheard
 from .systems import Systems, Unprojected, by_pyproj
 from .usual import LEAFLET, LOOPBACK
@@ -78,7 +76,6 @@ def opened(words: Words, ending: Ending) -> Iterator[tuple[Server, LayerStore]]:
             Server(words.store, create=words.create, read_only=reads, sessions=MOST_SESSIONS, workers=words.workers,
                    program=words.program, timeout=PATIENCE)
         )
-        scratch = open_ones.enter_context(Scratch(words.program, JOINING))
         version = 0
         if reads:
             version = number_in_file(words.store, words.program)
@@ -86,24 +83,20 @@ def opened(words: Words, ending: Ending) -> Iterator[tuple[Server, LayerStore]]:
             with server.session(slow=True) as one:
                 version = one.sync()
         rescue = Rescue(words.store, words.program, ending.end) if words.store and not reads else None
-        store = LayerStore(server, scratch, scale, version=version, kept=bool(words.store), writable=words.writable,
-                           rescue=rescue, end=ending.end)
+        store = LayerStore(server, found_program(FEATURES), scale, version=version, kept=bool(words.store),
+                           writable=words.writable, rescue=rescue, end=ending.end)
         open_ones.callback(store.close)
-        for watch in (watch_server, watch_scratch, watch_sessions):
-            threading.Thread(target=watch, args=(server, scratch, store, ending), daemon=True).start()
+        for watch in (watch_server, watch_sessions):
+            threading.Thread(target=watch, args=(server, store, ending), daemon=True).start()
         yield server, store
 
 
-def watch_server(server: Server, _: Scratch, __: LayerStore, ending: Ending) -> None:
+def watch_server(server: Server, _: LayerStore, ending: Ending) -> None:
     """Ends the front where overlay_live has ended, so that who keeps it running starts both anew."""
     ending.end(f"overlay_live has ended with status {server.process.wait()}")
 
 
-def watch_scratch(_: Server, scratch: Scratch, __: LayerStore, ending: Ending) -> None:
-    ending.end(f"overlay_live, by which base layers are worked out, has ended with status {scratch.wait()}")
-
-
-def watch_sessions(_: Server, __: Scratch, store: LayerStore, ending: Ending) -> None:
+def watch_sessions(_: Server, store: LayerStore, ending: Ending) -> None:
     """Ends the front where it could answer no question of a kind, or make no change, ever again."""
     while not store.has_lost_all():
         time.sleep(1)
@@ -179,8 +172,6 @@ def run_store(words: Words, hosts: set[str]) -> int:
                     signal.signal(number, signal.SIG_IGN)
             reason = ending.reason
             status, text = server.close()
-            for child in multiprocessing.active_children():  # what it joins nobody will ask for
-                child.kill()
     except (Unheard, Unusable) as fault:
         print(fault, file=sys.stderr)
         return 1

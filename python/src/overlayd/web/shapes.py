@@ -1,12 +1,10 @@
-"""From the boundary of a layer to features of the web.
+"""From the polygons of a layer to features of the web.
 
-Pieces are joined into rings by geometry/rings.py. What is asked of a feature is worked out on its exact corners; only
-what is written is rounded, by the scale."""
+What is asked of a feature is worked out on its exact corners; only what is written is rounded, by the scale."""
 
 from ..geometry import plane
 from ..geometry.plane import Box
-from ..geometry.rings import polygons_of
-from ..program import Piece, Point
+from ..program import Point
 from .map_scale import MapScale, rounded
 
 AREA_BITS = 96
@@ -38,9 +36,3 @@ def area_of(rings: list[list[Point]], scale: MapScale) -> int | float:
     twice = sum((numerator << AREA_BITS) // denominator for numerator, denominator in plane.terms(rings))
     by = scale.scale.factor * scale.scale.factor_y
     return rounded(twice * by.denominator, by.numerator << (AREA_BITS + 1), scale.digits)
-
-
-def features_of(pieces: list[Piece], scale: MapScale) -> list[Feature]:
-    """The polygons that the pieces of a whole boundary bound, numbered from 1 in the order of their least corners."""
-    polygons = polygons_of(pieces)
-    return [Feature(number, [ring.corners for ring in rings], scale) for number, rings in enumerate(polygons, 1)]

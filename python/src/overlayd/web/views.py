@@ -112,6 +112,11 @@ class View:
             raise Refused(UNKNOWN_LAYER, "unknown layer")
         return found
 
+    def reached(self, name: str) -> list[str]:
+        """The names of all layers that a layer reaches, in their order, its own the last."""
+        reach = self.layer(name).reach
+        return [one for one in self.layers if one in reach]
+
     def locate(self, names: Iterable[str], question: Point) -> dict[str, str]:
         """Where a point lies in each of some layers."""
         return {name: self._one.locate(name, *question) for name in names}
