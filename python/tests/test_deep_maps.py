@@ -8,14 +8,15 @@ from shapely.geometry import Polygon, box
 from shapely.geometry.base import BaseGeometry
 from shapely.ops import polygonize, unary_union
 
+from overlayd.api.pieces import alone
 from overlayd.geometry.flat_arrays import Numbers
-from overlayd.kernel import check, derive
+from overlayd.kernel import check, derive, overlay
+from overlayd.kernel.cell_jobs import within
 from overlayd.kernel.colouring import TooManyColours
 from overlayd.kernel.columns import Column, of_bytes
 from overlayd.kernel.laying import lay
 from overlayd.kernel.membership import members_of, overlapping
 from overlayd.kernel.overlaying import overlay_within, pairs_in
-from overlayd.kernel.piecing import alone, layers_of_map
 
 from .test_kernel_overlays import GRID, asked
 
@@ -62,13 +63,12 @@ def test_one_parcel_many_times(count: int) -> None:
 
 def test_what_a_feature_has_alone_beside_many() -> None:
     mine, others = [box(-4000, -300, 500, 200), box(-2000, 0, 1, 1)], quadrilaterals(9, 60)
-    laid = lay([column_of(mine), column_of(others)], GRID)
-    ask = asked()
-    found = alone(laid, 0, layers_of_map(laid, 1, ask), ask)
-    shared = alone(laid, 0, layers_of_map(laid, 1, ask), ask, is_shared=True)
+    ask = asked(grid=GRID)
+    common = overlay(column_of(mine), column_of(others), ask)
+    found, shared = alone(common, 0, ask), alone(common, 0, ask, within)
     union = unary_union(others)
     for rows, expected in ((found, [one - union for one in mine]), (shared, [one & union for one in mine])):
-        assert rows.features.tolist() == [0, 1]
+        assert rows.jobs.tolist() == [0, 1]
         assert all(near(rows.areas().exact(place), shape) for place, shape in enumerate(expected))
 
 

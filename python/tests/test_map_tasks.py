@@ -110,8 +110,8 @@ class Folders(InTasks):
                 self.begun()
 
     def test_what_stands_in_a_plan_is_looked_at(self) -> None:
-        plans = ('{"form": 5}', '{"form": 5, "run": {}, "tasks": "7"}', '{"form": 5, "run": [], "tasks": 7}',
-                 '{"form": 5, "run": {}, "tasks": -1}', '{"form": 5, "run": {}, "tasks": true}', "[" * 100_000, "\xff")
+        plans = ('{"form": 6}', '{"form": 5, "run": {}, "tasks": "7"}', '{"form": 5, "run": [], "tasks": 7}',
+                 '{"form": 6, "run": {}, "tasks": -1}', '{"form": 5, "run": {}, "tasks": true}', "[" * 100_000, "\xff")
         for text in plans:
             self.work.mkdir(exist_ok=True)
             (self.work / "run.json").write_text(text, "latin-1")

@@ -5,6 +5,7 @@ import json
 import os
 import pathlib
 import subprocess
+from dataclasses import replace
 from typing import Any
 from unittest import mock
 
@@ -12,9 +13,9 @@ import numpy as np
 import pytest
 from osgeo import gdal
 
+from overlayd.api.pieces import Pieces
 from overlayd.commands import check, derive, pairs, pieces
 from overlayd.files import writing
-from overlayd.kernel import piecing
 from .common import InFolder, Programs, outcome
 
 pytestmark = pytest.mark.features
@@ -166,15 +167,16 @@ class Tables(WithMaps):
 
     def test_a_wrong_answer_fails_the_audit(self) -> None:
         a, b = self.map("a", {"P": square(0, 0, 10)}), self.map("b", {"Z": square(5, 0, 10)})
-        right = piecing.alone
+        right = pieces.all_pieces
 
-        def wrong(*words: Any, **more: Any) -> piecing.Alone:
-            found = right(*words, **more)
-            rows = found.rows.copy()
+        def wrong(*words: Any) -> Pieces:
+            found = right(*words)
+            assert found.first is not None
+            rows = found.first.rows.copy()
             rows["both"]["low"] += np.uint64(2**45)
-            return piecing.Alone(found.features, rows, found.outlines, found.laid)
+            return replace(found, first=replace(found.first, rows=rows))
 
-        with mock.patch.object(pieces, "alone", wrong):
+        with mock.patch.object(pieces, "all_pieces", wrong):
             status, _, errors = self.asked("pieces", a, b, "--factor", 1, "--a-id", "nr", "--b-id", "nr")
         assert "audit: 1 features of a are NOT the sum of their pieces: P\n" in errors
         assert status == 1

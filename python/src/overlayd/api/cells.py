@@ -9,7 +9,7 @@ import numpy as np
 
 from ..geometry.flat_arrays import Numbers, offsets, owners
 from ..kernel.asking import Areas, Ask
-from ..kernel.blocks import PAIRS, Wants
+from ..kernel.blocks import Wants
 from ..kernel.cell_jobs import Jobs, Spell, blocks, of_members, union, within
 from ..kernel.columns import Column, columns_joined
 from ..kernel.features import Features, joined
@@ -22,25 +22,42 @@ from .asking import NoAnswer
 
 @dataclass(frozen=True)
 class Cells:
-    """What was found: the places of the jobs that have an area, their rows, and outlines where these were asked for."""
+    """What was found: the places of the jobs that have an area, or no answer, their rows, and outlines where these were
+    asked for."""
 
     jobs: Numbers
     rows: Numbers
     outlines: Column | None
     laid: Laid
 
+    def __len__(self) -> int:
+        return len(self.jobs)
+
     def areas(self) -> Areas:
         return Areas(self.rows["both"], self.rows["bound"], self.laid.factor)
 
+    def faults(self) -> Numbers:
+        """The places of those without an answer."""
+        found: Numbers = np.flatnonzero(self.rows["fault"])
+        return found
 
-def answered(features: Features, jobs: Jobs, spell: Spell, laid: Laid, ask: Ask) -> Cells:
-    """What the program answers, but for jobs of which the expression has no area."""
+    def part(self, places: Numbers) -> Cells:
+        """Some of them."""
+        own = None if self.outlines is None else self.outlines.part(places)
+        return Cells(self.jobs[places], taken(self.rows, places), own, self.laid)
+
+    def answered(self) -> Cells:
+        """The same, all of which have to have an answer."""
+        for place in self.faults().tolist():
+            raise NoAnswer(f"job {self.jobs[place]}", int(self.rows["fault"][place]))
+        return self
+
+
+def replied(features: Features, jobs: Jobs, spell: Spell, laid: Laid, ask: Ask) -> Cells:
+    """What the program replies, but for jobs of which the expression has no area."""
     found, rows, outlines, at = [np.zeros(0, np.int64)], [np.zeros(0, CELLS)], [], 0
-    for some in ask.rows(blocks(features, jobs, spell, ask.wants), -(-len(jobs.counts) // PAIRS)):
-        faults = np.flatnonzero(some.faults())
-        if len(faults):
-            raise NoAnswer(f"job {at + int(faults[0])}", int(some.faults()[faults[0]]))
-        own = np.flatnonzero(some.rows["pieces"] > 0)
+    for some in ask.rows(blocks(features, jobs, spell, ask.wants, ask.size), -(-len(jobs.counts) // ask.size)):
+        own = np.flatnonzero((some.rows["pieces"] > 0) | (some.faults() > 0))
         found.append(own + at)
         rows.append(taken(some.rows, own))
         at += len(some.rows)
@@ -69,7 +86,7 @@ def with_others(own: Features, others: Features, pairs: Numbers, members: Member
     features = np.concatenate([places, len(own) + pairs[place, 1]])
     layers = np.concatenate([np.zeros(len(places), np.int64), 1 + layer])
     jobs = of_members(own.boxes()[places], who, features, layers)
-    found = answered(joined([own, others]), jobs, spell, laid, ask)
+    found = replied(joined([own, others]), jobs, spell, laid, ask)
     return Cells(places[found.jobs], found.rows, found.outlines, laid)
 
 
@@ -86,5 +103,5 @@ def united(features: Features, groups: Numbers, members: Members, laid: Laid, as
         around = np.concatenate([np.minimum.reduceat(low, begins), np.maximum.reduceat(high, begins)], axis=1)
     place, layer = members.spread(order)
     jobs = of_members(around, owners(counts)[place], order[place], layer)
-    found = answered(features, jobs, union, laid, ask)
+    found = replied(features, jobs, union, laid, ask)
     return Cells(numbers[found.jobs], found.rows, found.outlines, laid)

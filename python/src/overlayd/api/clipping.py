@@ -39,7 +39,7 @@ def clip(gdf: Frame, mask: Any, keep_geom_type: bool = True, *, grid_size: GridS
         lie = rows.pairs[rows.relations() >= Relation.OVERLAPS]
         own, others = laid.maps
         layers = cells.layers_of(laid, 1, ask.stage(0.4, 0.6))
-        found = cells.with_others(own, others, lie, layers, within, laid, ask.stage(0.6, 1, ask.wants))
+        found = cells.with_others(own, others, lie, layers, within, laid, ask.stage(0.6, 1, ask.wants)).answered()
     assert found.outlines is not None
     result = gdf.iloc[found.jobs].copy()
     shapes = shapes_of(found.outlines, gdf.crs, result.index)

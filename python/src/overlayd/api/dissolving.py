@@ -28,7 +28,7 @@ def dissolve(df: Frame, by: Any = None, aggfunc: Any = "first", as_index: bool =
     with faults_told(df=df), refusals_told("dissolve"):
         laid = lay([column_of(df)], ask.grid)
         layers = cells.layers_of(laid, 0, ask.stage(0, 0.5), groups)
-        found = cells.united(laid.maps[0], groups, layers, laid, ask.stage(0.5, 1, ask.wants))
+        found = cells.united(laid.maps[0], groups, layers, laid, ask.stage(0.5, 1, ask.wants)).answered()
     assert found.outlines is not None
     shapes = np.full(data.ngroups, None, object)
     shapes[found.jobs] = shapes_of(found.outlines, df.crs).to_numpy()

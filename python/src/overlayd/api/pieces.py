@@ -6,10 +6,10 @@ from typing import NamedTuple
 
 import numpy as np
 
-from ..geometry.flat_arrays import Numbers
 from ..kernel import Ask, Wants, check, overlay
-from ..kernel.cell_jobs import minus
+from ..kernel.cell_jobs import Spell, minus
 from ..kernel.columns import Column
+from ..kernel.membership import overlapping
 from ..kernel.overlaying import Overlay, overlay_within
 from ..kernel.polygons import Polygons
 from ..kernel.rows import Relation
@@ -69,21 +69,30 @@ class Checked:
 
 
 def pieces(a: Column, b: Column, how: str, ask: Ask, *names: Sequence[object]) -> Pieces:
-    """The pieces of two maps that an overlay of a kind has; names are what features are called in a refusal."""
-    wants = ask.wants if how in COMMON else Wants.NOTHING
-    rows = answered(overlay(a, b, ask.stage(0, 0.5, wants)), *names)
-    lie = rows.pairs[rows.relations() >= Relation.OVERLAPS]
-    first = alone(rows, 0, lie, ask.stage(0.5, 0.75, ask.wants)) if how in OF_FIRST else None
-    swapped = lie[np.lexsort((lie[:, 0], lie[:, 1]))][:, ::-1]
-    return Pieces(rows, first, alone(rows, 1, swapped, ask.stage(0.75, 1, ask.wants)) if how in OF_SECOND else None)
+    """The pieces of two maps that an overlay of a kind has, all of which have to have an answer; names are what
+    features are called in a refusal."""
+    found = all_pieces(a, b, how, ask)
+    answered(found.both, *names)
+    for own in (found.first, found.second):
+        if own is not None:
+            own.answered()
+    return found
 
 
-def alone(rows: Overlay, side: int, pairs: Numbers, ask: Ask) -> cells.Cells:
-    """What each feature of one map has alone."""
-    laid = rows.laid
-    own, others = laid.maps[side], laid.maps[1 - side]
+def all_pieces(a: Column, b: Column, how: str, ask: Ask) -> Pieces:
+    """The same with those without an answer."""
+    rows = overlay(a, b, ask.stage(0, 0.5, ask.wants if how in COMMON else Wants.NOTHING))
+    first = alone(rows, 0, ask.stage(0.5, 0.75, ask.wants)) if how in OF_FIRST else None
+    return Pieces(rows, first, alone(rows, 1, ask.stage(0.75, 1, ask.wants)) if how in OF_SECOND else None)
+
+
+def alone(rows: Overlay, side: int, ask: Ask, spell: Spell = minus) -> cells.Cells:
+    """What each feature of one map has alone; or by `within` what it shares with any of the other."""
+    laid, lie = rows.laid, overlapping(rows).pairs
+    pairs = lie[np.lexsort((lie[:, 0], lie[:, 1]))][:, ::-1] if side else lie
     layers = cells.layers_of(laid, 1 - side, ask.stage(0, 0.5))
-    return cells.with_others(own, others, pairs, layers, minus, laid, ask.stage(0.5, 1, ask.wants))
+    return cells.with_others(laid.maps[side], laid.maps[1 - side], pairs, layers, spell, laid,
+                             ask.stage(0.5, 1, ask.wants))
 
 
 def answered(rows: Overlay, *names: Sequence[object]) -> Overlay:

@@ -9,25 +9,23 @@ from typing import Any
 import click
 import numpy as np
 
+from ..api.cells import Cells
+from ..api.pieces import COMMON, HOWS, all_pieces, alone
 from ..files import shape_files, writing
 from ..files.map_columns import MapColumn
 from ..files.row_tables import quoted
 from ..geometry.flat_arrays import Numbers
-from ..kernel import Ask, Wants, overlay
+from ..kernel import Ask, Wants
 from ..kernel.asking import Areas
+from ..kernel.cell_jobs import within
 from ..kernel.columns import Column, columns_joined
 from ..kernel.measuring import widths
-from ..kernel.membership import Members
 from ..kernel.overlaying import Overlay, overlay_within
-from ..kernel.piecing import Alone, alone, layers_of_map
 from ..kernel.rows import Relation
 from ..words import FILE, argument, flag, option
 from . import map_words
 from .map_words import Question
 
-# What of both maps a question has, as geopandas calls it: common pieces, those of A alone, those of B alone.
-HOWS = {"union": (True, True, True), "intersection": (True, False, False), "identity": (True, True, False),
-        "difference": (False, True, False), "symmetric_difference": (False, True, True)}
 HEADS = ("a", "b", "area", "bound", "width", "relation")
 
 
@@ -57,7 +55,7 @@ class Table:
 
 @map_words.question(
     "pieces", argument("first", metavar="A"), argument("second", metavar="B"), *map_words.words("ab"),
-    option("--how", "which pieces, as geopandas calls them (default: union)", click.Choice([*HOWS]), default="union"),
+    option("--how", "which pieces, as geopandas calls them (default: union)", click.Choice(HOWS), default="union"),
     option("--out", "the table (default: standard output)", FILE, metavar="FILE.csv"),
     option("--pieces", "the pieces as shapes: .geojson, .gpkg or .fgb", FILE, metavar="FILE"),
     flag("--no-audit", "leave the audit out"))
@@ -83,25 +81,19 @@ def command(question: Question) -> None:
     shape_files.check(shown)
     a, b = question.read((given["first"], given["second"]), "ab")
     ask = question.ask(Wants.OUTLINES)
-    common = overlay(a.column, b.column, ask.stage(0, 0.4, Wants.OUTLINES))
-    question.tell_grid(common.laid)
-    layers = [layers_of_map(common.laid, number, ask.stage(0.4 + number / 10, 0.5 + number / 10)) for number in (0, 1)]
-    with_common, *sides = HOWS[given["how"]]
-    stages = [ask.stage(0.6 + number / 10, 0.7 + number / 10, Wants.OUTLINES) for number in (0, 1)]
-    own = [alone(common.laid, number, layers[1 - number], stages[number]) if sides[number] else None
-           for number in (0, 1)]
-    table = joined(common if with_common else None, own, a, b).largest_first()
-    write(table, out, shown, question)
-    tell(question, common if with_common else None, own)
-    faults = tell_unanswered(question, common, own, a, b)
-    if not given["no_audit"]:
-        for number, read in ((0, a), (1, b)):
-            part = own[number]
-            if part is not None and not faults and with_common:
-                audit(question, number, read, Side(common, part, layers[1 - number], ask.stage(0.8 + number / 10, 1)))
+    found = all_pieces(a.column, b.column, given["how"], ask.stage(0, 0.8, Wants.OUTLINES))
+    question.tell_grid(found.both.laid)
+    common, own = found.both if given["how"] in COMMON else None, (found.first, found.second)
+    write(joined(common, own, a, b).largest_first(), out, shown, question)
+    tell(question, common, own)
+    faults = tell_unanswered(question, found.both, own, a, b)
+    for number, read in enumerate((a, b)):
+        part = own[number]
+        if part is not None and common is not None and not faults and not given["no_audit"]:
+            audit(question, number, read, Side(common, part, ask.stage(0.8 + number / 10, 0.9 + number / 10)))
 
 
-def joined(common: Overlay | None, own: Sequence[Alone | None], a: MapColumn, b: MapColumn) -> Table:
+def joined(common: Overlay | None, own: Sequence[Cells | None], a: MapColumn, b: MapColumn) -> Table:
     """All pieces in one table, of which there is at least one kind."""
     tables = [] if common is None else [of_common(common, a, b)]
     tables += [of_alone(side, number, (a, b)[number]) for number, side in enumerate(own) if side is not None]
@@ -121,11 +113,11 @@ def of_common(common: Overlay, a: MapColumn, b: MapColumn) -> Table:
                  np.full(len(rows), "overlaps", object), rows.outlines)
 
 
-def of_alone(side: Alone, number: int, read: MapColumn) -> Table:
+def of_alone(side: Cells, number: int, read: MapColumn) -> Table:
     """The pieces that a feature has alone."""
     rows = side.part(np.flatnonzero(side.rows["fault"] == 0))
     assert rows.outlines is not None
-    names, nothing = read.names[rows.features], np.full(len(rows), "", object)
+    names, nothing = read.names[rows.jobs], np.full(len(rows), "", object)
     return Table(nothing if number else names, names if number else nothing, rows.areas(),
                  np.full(len(rows), "alone", object), rows.outlines)
 
@@ -148,7 +140,7 @@ def write(table: Table, out: pathlib.Path | None, shown: pathlib.Path | None, qu
         file.writelines(lines)
 
 
-def tell(question: Question, common: Overlay | None, own: Sequence[Alone | None]) -> None:
+def tell(question: Question, common: Overlay | None, own: Sequence[Cells | None]) -> None:
     """What the pieces of each kind sum to."""
     sums = []
     if common is not None:
@@ -157,28 +149,26 @@ def tell(question: Question, common: Overlay | None, own: Sequence[Alone | None]
     question.say("; ".join(f"{name} {float(areas.total()):.12g} in {count} pieces" for name, areas, count in sums))
 
 
-def tell_unanswered(question: Question, common: Overlay, own: Sequence[Alone | None], a: MapColumn,
+def tell_unanswered(question: Question, common: Overlay, own: Sequence[Cells | None], a: MapColumn,
                     b: MapColumn) -> bool:
     """Of what there is no answer; whether there is any."""
     lines = [f"{a.label(i)}, and {b.label(j)}: {map_words.why(fault)}" for (i, j), fault in zip(
         common.pairs[common.faults()].tolist(), common.rows["fault"][common.faults()].tolist())]
     for side, read in zip(own, (a, b)):
         if side is not None:
-            faults = np.flatnonzero(side.rows["fault"])
+            faults = side.part(side.faults())
             lines += [f"{read.label(feature)}: {map_words.why(fault)}; what it has alone is left out"
-                      for feature, fault in zip(side.features[faults].tolist(), side.rows["fault"][faults].tolist())]
+                      for feature, fault in zip(faults.jobs.tolist(), faults.rows["fault"].tolist())]
     question.tell_unanswered(lines)
     return bool(lines)
 
 
 @dataclass(frozen=True)
 class Side:
-    """Of what the audit of a map is made: common pieces, what it has alone, the layers of the other map, and how is
-    asked."""
+    """Of what the audit of a map is made: common pieces, what it has alone, and how is asked."""
 
     common: Overlay
-    alone: Alone
-    layers: Members
+    alone: Cells
     ask: Ask
 
 
@@ -192,7 +182,7 @@ def audit(question: Question, number: int, read: MapColumn, side: Side) -> None:
     off = np.zeros(count, object)
     for features, parts, bounds, sign in (
             (side.common.pairs[:, number], side.common.rows["both"], side.common.rows["bound"], 1),
-            (side.alone.features, side.alone.rows["both"], side.alone.rows["bound"], 1),
+            (side.alone.jobs, side.alone.rows["both"], side.alone.rows["bound"], 1),
             (whole.pairs[:, 0], whole.rows["a"], whole.rows["bound"], -1)):
         np.add.at(sums, features, sign * wholes(parts))
         np.add.at(off, features, wholes(bounds))
@@ -210,11 +200,11 @@ def audit(question: Question, number: int, read: MapColumn, side: Side) -> None:
 def shares_close(side: Side, number: int, apart: Numbers, found: tuple[Numbers, Numbers]) -> Numbers:
     """Of features whose pieces are more than they are, as others lie on each other within them: whether what they share
     with the other map as a whole, and what they have alone, are they."""
-    shared = alone(side.common.laid, number, side.layers, side.ask.stage(0.3, 1), is_shared=True)
+    shared = alone(side.common, number, side.ask.stage(0.3, 1), within)
     sums, off = found[0].copy(), found[1].copy()
     np.add.at(sums, side.common.pairs[:, number], -wholes(side.common.rows["both"]))
-    np.add.at(sums, shared.features, wholes(shared.rows["both"]))
-    np.add.at(off, shared.features, wholes(shared.rows["bound"]))
+    np.add.at(sums, shared.jobs, wholes(shared.rows["both"]))
+    np.add.at(off, shared.jobs, wholes(shared.rows["bound"]))
     closes: Numbers = (np.abs(sums) <= off)[apart] & (found[0] > 0)[apart]
     return closes
 

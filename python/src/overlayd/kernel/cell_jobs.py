@@ -70,10 +70,10 @@ def union_from(first: int, layers: int) -> str:
     return " | ".join(name_of(number) for number in range(first, layers))
 
 
-def blocks(features: Features, jobs: Jobs, spell: Spell, wants: Wants) -> Iterator[bytes]:
-    """The blocks of jobs, each with an expression over as many layers as its own jobs have."""
-    for begin in range(0, len(jobs.counts), PAIRS):
-        some = jobs.part(begin, min(begin + PAIRS, len(jobs.counts)))
+def blocks(features: Features, jobs: Jobs, spell: Spell, wants: Wants, size: int = PAIRS) -> Iterator[bytes]:
+    """The blocks of jobs, so many in each, with an expression over as many layers as its own jobs have."""
+    for begin in range(0, len(jobs.counts), size):
+        some = jobs.part(begin, min(begin + size, len(jobs.counts)))
         own, place = np.unique(some.features, return_inverse=True)
         layers = int(some.layers.max(initial=0)) + 1
         numbered = Jobs(some.boxes, some.counts, place, some.layers)

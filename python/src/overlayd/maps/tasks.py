@@ -26,7 +26,7 @@ from ..files import writing
 Work = Callable[[bytes], bytes]
 """What does a task: from what a task file holds to what its result file holds. It can be pickled."""
 
-FORM = 5  # of the folder, of tasks and of results; a folder of another one is another run's
+FORM = 6  # of the folder, of tasks and of results; a folder of another one is another run's
 
 
 class FolderFault(Exception):
