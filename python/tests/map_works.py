@@ -8,7 +8,7 @@ import time
 from dataclasses import dataclass
 
 from overlayd import progress
-from overlayd.maps import dask_engine, engines, tasks
+from overlayd.maps import asking, dask_engine, engines, tasks
 
 
 @dataclass(frozen=True)
@@ -53,7 +53,7 @@ def main() -> None:
     """A run of its own process: FOLDER MARKS SECONDS ENGINE DEATHS; ENGINE is 'several', 'dask' or an address."""
     signal.signal(signal.SIGINT, signal.default_int_handler)  # also where a shell has it ignored
     folder, marks = map(pathlib.Path, sys.argv[1:3])
-    engine = engines.several(2)
+    engine = asking.by_threads(2)
     if sys.argv[4] != "several":
         engine = dask_engine.by_dask(None if sys.argv[4] == "dask" else sys.argv[4], 2)
     work = Reversing(marks, b"task 5", int(sys.argv[5]), float(sys.argv[3]))

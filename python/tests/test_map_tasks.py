@@ -17,7 +17,7 @@ import pytest
 
 from overlayd import progress
 from overlayd.commands import pairs, task
-from overlayd.maps import dask_engine, engines, tasks
+from overlayd.maps import asking, dask_engine, engines, tasks
 from overlayd.maps.tasks import FolderFault, TaskFolder
 from .common import OVERLAY, SECONDS, SOURCES, TOP, InFolder, Programs, is_running, outcome, ran, wait_until
 from .map_works import Refusing, Reversing
@@ -110,8 +110,8 @@ class Folders(InTasks):
                 self.begun()
 
     def test_what_stands_in_a_plan_is_looked_at(self) -> None:
-        plans = ('{"form": 6}', '{"form": 5, "run": {}, "tasks": "7"}', '{"form": 5, "run": [], "tasks": 7}',
-                 '{"form": 6, "run": {}, "tasks": -1}', '{"form": 5, "run": {}, "tasks": true}', "[" * 100_000, "\xff")
+        plans = ('{"form": 6}', '{"form": 6, "run": {}, "tasks": "7"}', '{"form": 6, "run": [], "tasks": 7}',
+                 '{"form": 6, "run": {}, "tasks": -1}', '{"form": 6, "run": {}, "tasks": true}', "[" * 100_000, "\xff")
         for text in plans:
             self.work.mkdir(exist_ok=True)
             (self.work / "run.json").write_text(text, "latin-1")
@@ -140,7 +140,7 @@ class Folders(InTasks):
         with self.assertRaisesRegex(FolderFault, "000004.task: damaged, .*; begin the run again in another folder"):
             tasks.do(Reversing(self.marks), folder, 4)
         with self.assertRaisesRegex(engines.TaskFault, "^task 4: .*000004.task: damaged"):
-            engines.run(engines.in_process, Reversing(self.marks), folder, quiet())
+            engines.run(asking.by_threads(1), Reversing(self.marks), folder, quiet())
 
     def test_a_result_that_came_of_another_task_is_named_with_what_to_do(self) -> None:
         folder = self.begun()
@@ -225,10 +225,10 @@ class Engines(WithProcesses):
         return list(folder.results())
 
     def test_no_task_is_none_to_do(self) -> None:
-        assert self.ran(engines.several(2), Refusing(), []) == []
+        assert self.ran(asking.by_threads(2), Refusing(), []) == []
 
     def test_a_task_that_is_refused_is_named(self) -> None:
-        for engine in (engines.in_process, engines.several(2)):
+        for engine in (asking.by_threads(1), asking.by_threads(2)):
             with self.subTest(engine), self.assertRaisesRegex(engines.TaskFault, "task 1: Odd: no good"):
                 self.ran(engine, Refusing(), [b"good", b"bad", b"good"])
 

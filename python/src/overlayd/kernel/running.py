@@ -6,11 +6,12 @@ that began it. A thread that reads rows keeps Python from ending, as any does th
 
 import collections
 import io
+import itertools
 import subprocess
 import threading
 from collections.abc import Callable, Iterable, Iterator
 from concurrent import futures
-from typing import IO
+from typing import IO, TypeVar
 
 from .rows import Rows, rows_of
 
@@ -18,10 +19,12 @@ LENGTH = 8
 PATIENCE = 0.1  # seconds between two looks at whether to go on
 SAID = 4096  # bytes of what the program says that are kept, the last ones
 TRIES = 3  # of a block whose program ends each time
-IN_HAND = 2  # blocks of each program: one that it does, and one that waits for it
+IN_HAND = 2  # items of each thread: one that it does, and one that waits for it
 NO_FAULT: Exception | None = None
 GoesOn = Callable[[int], bool]
 Runs = Callable[[str, Iterable[bytes], GoesOn], Iterator[Rows]]
+T = TypeVar("T")
+R = TypeVar("R")
 
 
 class Cancelled(Exception):
@@ -60,28 +63,32 @@ def run(program: str, blocks: Iterable[bytes], goes_on: GoesOn = always) -> Iter
 
 
 def several(processes: int) -> Runs:
-    """So many programs at once, each with one block in hand; rows come in the blocks' order, whoever makes them. A
-    block whose program ended is given to another one."""
+    """So many programs at once; rows come in the blocks' order, whoever makes them. A block whose program ended goes to
+    another one."""
 
     def runs(program: str, blocks: Iterable[bytes], goes_on: GoesOn = always) -> Iterator[Rows]:
-        hand, left, done = collections.deque[futures.Future[Rows]](), iter(blocks), 0
-        is_over = threading.Event()
-        with futures.ThreadPoolExecutor(processes) as pool:
-            try:
-                while True:
-                    while len(hand) < IN_HAND * processes and (block := next(left, None)) is not None:
-                        hand.append(pool.submit(tried, program, block,
-                                                lambda _: not is_over.is_set() and goes_on(done)))
-                    if not hand:
-                        return
-                    rows = hand.popleft().result()
-                    done += 1
-                    yield rows
-            finally:
-                is_over.set()
-                pool.shutdown(cancel_futures=True)
+        done, is_over = 0, threading.Event()
+        for rows in in_order(processes, lambda block: tried(
+                program, block, lambda _: not is_over.is_set() and goes_on(done)), blocks, is_over):
+            done += 1
+            yield rows
 
     return runs
+
+
+def in_order(threads: int, do: Callable[[T], R], items: Iterable[T], is_over: threading.Event) -> Iterator[R]:
+    """What comes of items, in their order, by so many threads; is_over is set where no more of it is wanted."""
+    hand, left = collections.deque[futures.Future[R]](), iter(items)
+    with futures.ThreadPoolExecutor(threads) as pool:
+        try:
+            while True:
+                hand.extend(pool.submit(do, one) for one in itertools.islice(left, IN_HAND * threads - len(hand)))
+                if not hand:
+                    return
+                yield hand.popleft().result()
+        finally:
+            is_over.set()
+            pool.shutdown(cancel_futures=True)
 
 
 def tried(program: str, block: bytes, goes_on: GoesOn) -> Rows:

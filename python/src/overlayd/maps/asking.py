@@ -6,6 +6,7 @@ its result; each part of a question is a stage of its own, in a folder 1, 2 and 
 import contextlib
 import pathlib
 import tempfile
+import threading
 import time
 from collections.abc import Callable, Iterable, Iterator, Mapping
 from dataclasses import dataclass, field
@@ -14,12 +15,12 @@ from typing import Any
 from .. import ending, progress
 from ..ending import Unusable
 from ..kernel.rows import Rows, rows_of
-from ..kernel.running import GoesOn, several
+from ..kernel.running import GoesOn, in_order, several
 from . import dask_engine, engines, tasks
 from .dask_engine import DaskFault
 from .engines import Engine, TaskFault
-from .tasks import FolderFault, TaskFolder
 from .replying import ByProgram
+from .tasks import FolderFault, TaskFolder, Work
 
 Say = Callable[[str], None]
 SECONDS_BETWEEN = 10  # of two lines of a file
@@ -70,8 +71,18 @@ class Doing:
             return dask_engine.by_dask(self.dask or None, self.processes or 1)
         if self.processes == 0:
             return engines.only_planned
-        count = min(self.processes, len(folder.left()))
-        return engines.several(count) if count > 1 else engines.in_process
+        return by_threads(self.processes)
+
+
+def by_threads(count: int) -> Engine:
+    """So many tasks at once, each by a thread, which waits for the program that does it."""
+
+    def engine(work: Work, folder: TaskFolder, numbers: Iterable[int]) -> Iterator[int]:
+        for number, fault in in_order(count, lambda number: (number, engines.done(work, folder, number)), numbers,
+                                      threading.Event()):
+            yield engines.checked(number, fault)
+
+    return engine
 
 
 @dataclass

@@ -1,11 +1,9 @@
-"""Does the tasks of a folder: one after another, or several at once. dask_engine.py has Dask's workers.
+"""Has the tasks of a folder done: by somebody else, by threads (asking.py), or by Dask's workers (dask_engine.py).
 
 An engine is given what does a task, the folder, and the numbers that have no result yet; it gives each number as soon
 as its result is in the folder."""
 
 from collections.abc import Callable, Iterable, Iterator
-from concurrent import futures
-from itertools import islice
 
 from .. import progress
 from . import tasks
@@ -14,7 +12,6 @@ from .tasks import FolderFault, TaskFolder, Work
 Engine = Callable[[Work, TaskFolder, Iterable[int]], Iterator[int]]
 
 TRIES = 3  # of a task whose worker dies each time
-IN_HAND = 2  # tasks a program: one that it does, and one that waits for it
 
 
 class TaskFault(Exception):
@@ -49,12 +46,6 @@ def checked(number: int, fault: TaskFault | None) -> int:
     return number
 
 
-def in_process(work: Work, folder: TaskFolder, numbers: Iterable[int]) -> Iterator[int]:
-    """One after another, here."""
-    for number in numbers:
-        yield checked(number, done(work, folder, number))
-
-
 def only_planned(work: Work, folder: TaskFolder, numbers: Iterable[int]) -> Iterator[int]:
     """By somebody else: that the tasks are written is reported, and the run ends."""
     left = len(list(numbers))
@@ -62,26 +53,6 @@ def only_planned(work: Work, folder: TaskFolder, numbers: Iterable[int]) -> Iter
         raise TasksLeft(f"{left} of {folder.count()} tasks are left in {folder.path}: do them by `overlay task "
                         f"{folder.path} N..`, numbers from 0, and then say the same again")
     yield from ()
-
-
-def several(count: int) -> Engine:
-    """So many at once, each by a thread, which waits for the program that does it."""
-
-    def engine(work: Work, folder: TaskFolder, numbers: Iterable[int]) -> Iterator[int]:
-        left, hand = iter(numbers), dict[futures.Future[TaskFault | None], int]()
-        with futures.ThreadPoolExecutor(count) as pool:
-            try:
-                while True:
-                    hand |= {pool.submit(done, work, folder, number): number
-                             for number in islice(left, IN_HAND * count - len(hand))}
-                    if not hand:
-                        return
-                    for one in futures.wait(hand, return_when=futures.FIRST_COMPLETED).done:
-                        yield checked(hand.pop(one), one.result())
-            finally:
-                pool.shutdown(cancel_futures=True)
-
-    return engine
 
 
 def run(engine: Engine, work: Work, folder: TaskFolder, told: progress.OfTasks) -> None:
