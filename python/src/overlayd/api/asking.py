@@ -9,11 +9,11 @@ from ..kernel import Ask, Grid, Wants
 from ..kernel.rows import BlockRefused
 from ..program_files import FEATURES, found_program
 
-UNREADABLE, NO_OUTLINES = 76, 84  # faults of a block
+UNREADABLE = 76  # the fault of a block
 GridSize = float | str | Fraction | Grid | None
 
 
-WORDS = {UNREADABLE: "the expression cannot be read", NO_OUTLINES: "this overlay_features makes no outlines"}
+WORDS = {UNREADABLE: "the expression cannot be read"}
 
 
 class NotInMetres(ValueError):

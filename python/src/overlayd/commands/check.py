@@ -41,9 +41,6 @@ def command(question: Question) -> None:
     shape_files.check(gaps)
     (read,) = question.read((given["first"],), "a")
     ask = question.ask(Wants.OUTLINES)
-    if gaps is None and not ask.makes_outlines():
-        question.say("gaps are not listed, as this program makes no outlines")
-        ask = question.ask(Wants.NOTHING)
     try:
         found = check(read.column, ask, pairs.wanted(given))
     except TooDeep as fault:

@@ -20,7 +20,6 @@ from ..files.rounding import longer_text
 from ..grid_pass.default_grid import Unit
 from ..grid_pass.onto_grid import Noding
 from ..kernel import Ask, Grid, MapFault, Wants
-from ..kernel.asking import NO_OUTLINES
 from ..kernel.colouring import TooManyColours
 from ..kernel.laying import Laid, What
 from ..kernel.layered import NoAnswer
@@ -289,10 +288,7 @@ def status_of(question: Question, asked: Asked) -> int:
         return question.refused(str(fault), 2)
     except MapFault as fault:
         return question.refused(map_fault_text(fault, question.maps), 2)
-    except BlockRefused as fault:
-        no_outlines = "this program makes no outlines; leave out what asks for them"
-        return question.refused(no_outlines if fault.fault == NO_OUTLINES else str(fault), 1)
-    except (Unusable, ProgramEnded, NoAnswer, TooManyColours) as fault:
+    except (Unusable, BlockRefused, ProgramEnded, NoAnswer, TooManyColours) as fault:
         return question.refused(str(fault), 1)
     except OSError as fault:
         if isinstance(fault, BrokenPipeError) or fault.filename is None:

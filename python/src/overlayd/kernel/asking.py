@@ -8,13 +8,11 @@ from fractions import Fraction
 import numpy as np
 
 from ..geometry.flat_arrays import Numbers
-from .blocks import PAIRS, Asked, Kind, Wants, block
-from .features import NO_FEATURES
+from .blocks import PAIRS, Wants
 from .laying import Grid
-from .rows import PARTS, BlockRefused, Rows
+from .rows import PARTS, Rows
 from .running import Cancelled, Runs, run
 
-NO_OUTLINES = 84  # the fault of a program that makes none
 LAST_PLACES = 4  # by which arithmetic of doubles may be off
 
 
@@ -38,17 +36,6 @@ class Ask:
     def stage(self, begin: float, end: float, wants: Wants = Wants.NOTHING) -> "Ask":
         """The same for a stage of the work, which ends when so much of the whole is done."""
         return dataclasses.replace(self, wants=wants, goes_on=lambda part: self.goes_on(begin + part * (end - begin)))
-
-    def makes_outlines(self) -> bool:
-        """Whether the program makes outlines, as it says of a block without features."""
-        asked = Asked(Kind.PAIR, np.zeros(0, np.int64), 0)
-        try:
-            list(run(self.program, [block(NO_FEATURES, asked, Wants.OUTLINES)]))
-        except BlockRefused as refused:
-            if refused.fault != NO_OUTLINES:
-                raise
-            return False
-        return True
 
     def look(self, part: float = 0.0) -> None:
         """Raises Cancelled where the work is not to go on."""

@@ -46,9 +46,6 @@ class Features:
         return found
 
 
-NO_FEATURES = Features(*(np.zeros(0, np.int64) for _ in "xy"), *(np.zeros(1, np.int64) for _ in "rf"))
-
-
 def of_rings(x: Numbers, y: Numbers, sizes: Numbers, counts: Numbers) -> Features:
     """Features of rings: of each ring its size, of each feature how many rings it has; rings without points go."""
     full = sizes > 0
