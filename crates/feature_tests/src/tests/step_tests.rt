@@ -91,23 +91,20 @@ const RINGS: &[(&[Place], &[Place], &[(Place, Place)])] = &[
 /// A ring of which one step, through the core, leaves the plane by a unit.
 const LONG: &[Place] = &[(5, 5), (1048577, 5), (5, 6), (5, 5)];
 
-/// A core.
-fn core(rt: &impl Abort, low: Place, high: Place) -> NearCore {
-    let (low_x, low_y) = low;
-    let (high_x, high_y) = high;
-    NearCore::of(&Core {
+/// The box of these tests.
+fn own_box() -> Core {
+    let (low_x, low_y) = LOW;
+    Core {
         low_x,
-        high_x,
+        high_x: low_x.wrapping_add(10),
         low_y,
-        high_y,
-    })
-    .expect(rt, "a core")
+        high_y: low_y.wrapping_add(20),
+    }
 }
 
 /// The core of these tests.
 fn own_core(rt: &impl Abort) -> NearCore {
-    let (x, y) = LOW;
-    core(rt, (x, y), (x.wrapping_add(10), y.wrapping_add(20)))
+    NearCore::of(&own_box()).expect(rt, "a core")
 }
 
 /// A number seen from 0 that was seen from another.
@@ -177,7 +174,7 @@ fn rings_are_drawn_within_a_core(rt: HostRuntime) {
 fn what_is_left_of_a_ring_is_drawn_as_the_ring(rt: HostRuntime) {
     for &(places, left, want) in RINGS {
         let points = points_of(&rt, rt.alloc(), places);
-        let kept = reduced(rt.alloc(), &points, &own_core(&rt)).expect(&rt, "memory");
+        let kept = reduced(rt.alloc(), &points, &own_box()).expect(&rt, "memory");
         assert!(&rt; are_points(&rt, &kept, left));
         let mut marked = Vec::new(rt.alloc());
         let done = draw(&mut marked, 0, &kept, &own_core(&rt)).expect(&rt, "memory");
