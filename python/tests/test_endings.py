@@ -12,10 +12,9 @@ from .common import OVERLAY, SECONDS, SQUARE, InFolder, ran
 
 COUNT = 20000
 SQUARES = 2000
-# What is answered of a column that has so many squares.
-MANY = f"edges {4 * SQUARES}\n" + "".join(
-    f"{x} 0 1 {x} 1 1\n{x} 0 1 {x + 1} 0 1\n{x} 1 1 {x + 1} 1 1\n{x + 1} 0 1 {x + 1} 1 1\n"
-    for x in range(0, 2 * SQUARES, 2))
+# A layer of so many squares.
+MANY = "MULTIPOLYGON (" + ", ".join(
+    f"(({x} 0, {x + 1} 0, {x + 1} 1, {x} 1, {x} 0))" for x in range(0, 2 * SQUARES, 2)) + ")"
 # A program in the place of overlay_live, which answers each line by what it begins with.
 PROGRAM = """#!{}
 import sys
@@ -35,7 +34,8 @@ class Endings(InFolder):
         listed = {"LAYERS": f"layers 1\n{'A' * 32} {SQUARE}\n", "SYNC": "durable 1\n", "LOCATE": "in\n"}
         many = self.program("many", {"LAYERS": f"layers {COUNT}\n" + "I = A\n" * COUNT})
         answers = self.program("answers", listed)
-        drawing = self.program("drawing", {**listed, "EDGES asked 16": MANY, "EDGES": "edges 0\n", "": "ok 1\n"})
+        drawing = self.program("drawing", {**listed, "LAYERS": f"layers 1\nA {MANY}\n", "EDGES": "edges 0\n",
+                                           "": "ok 1\n"})
         points = self.file("points.txt", "1 1\n" * 4000)
         return [["import", str(map_file), "--split"], ["dump", str(store), "--program", str(many)],
                 ["which", "--store", str(store), "--program", str(answers), "--points", str(points)],
