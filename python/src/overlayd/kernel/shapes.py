@@ -34,9 +34,10 @@ def shapes(column: Column) -> Shapes:
     full = found.points > 0
     rings = Found(*(getattr(found, name)[full] for name in Found.__annotations__))
     sizes = rings.points - 1
-    at = np.repeat(rings.begin, sizes) + spans(np.zeros_like(sizes), sizes) * np.repeat(rings.width, sizes)
+    width = rings.width[:1] if (rings.width == rings.width[:1]).all() else np.repeat(rings.width, sizes)
     is_big = np.repeat(rings.is_big, sizes) if rings.is_big.any() else rings.is_big[:1]
-    x, y = points_at(column.data, at, is_big)
+    firsts = rings.begin - rings.width * offsets(sizes)[:-1]  # where the first point of all would be, by each ring
+    x, y = points_at(column.data, np.repeat(firsts, sizes) + np.arange(int(sizes.sum())) * width, is_big)
     check(column, rings, x, y)
     counts = np.bincount(rings.feature, minlength=len(column))
     return Shapes(x, y, sizes, rings.is_outer, counts, others, kinds)
@@ -47,8 +48,9 @@ def check(column: Column, rings: Found, x: Numbers, y: Numbers) -> None:
     first_x, first_y = points_at(column.data, rings.begin, rings.is_big)
     last_x, last_y = points_at(column.data, rings.begin + (rings.points - 1) * rings.width, rings.is_big)
     is_open = (first_x != last_x) | (first_y != last_y)
-    ring = owners(rings.points - 1)
-    is_odd = np.bincount(ring[~(np.isfinite(x) & np.isfinite(y))], minlength=len(rings.begin)) > 0
+    odd = np.flatnonzero(~(np.isfinite(x) & np.isfinite(y)))
+    ring = np.searchsorted(np.cumsum(rings.points - 1), odd, "right")
+    is_odd = np.bincount(ring, minlength=len(rings.begin)) > 0
     for wrong, reason in ((is_odd, Reason.NO_NUMBER), (is_open, Reason.OPEN)):
         if wrong.any():
             raise ShapeFault(np.unique(rings.feature[wrong]), reason)

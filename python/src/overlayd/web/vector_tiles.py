@@ -89,23 +89,22 @@ def cut(shape: bytes, edges: tuple[float, ...]) -> bytes | None:
 def dots(read: Shapes, box: Square, extent: int) -> tuple[Numbers, Numbers, Numbers]:
     """Rings in the numbers of a tile: their points, of each ring how many, of each feature how many rings. A point that
     is the one after it goes, and so does a ring of less than three. Outer rings turn as the standard has it."""
-    scale = extent / (box.right - box.left)
-    at = np.rint(np.stack([read.x - box.left, box.high - read.y]) * scale).astype(np.int32)
-    if not len(read.sizes):
-        return at, read.sizes, read.counts
-    stays = (at != rolled(at, read.sizes)).any(0)
-    sizes = np.add.reduceat(stays, offsets(read.sizes)[:-1], dtype=np.int64)
+    own: Numbers = np.stack([read.x - box.left, box.high - read.y])
+    own *= extent / (box.right - box.left)
+    at = np.rint(own, out=own).astype(np.int32)
+    full = np.flatnonzero(read.sizes)  # a ring of one point has none without the closing one
+    if not len(full):
+        return at, full, np.zeros_like(read.counts)
+    whole, feature = read.sizes[full], owners(read.counts)[full]
+    after, begins = rolled(at, whole), offsets(whole)[:-1]
+    stays = (at != after).any(0)
+    sizes = np.add.reduceat(stays, begins, dtype=np.int64)
     good = sizes > 2
-    points, sizes = at[:, stays & np.repeat(good, read.sizes)], sizes[good]
-    counts = np.bincount(owners(read.counts)[good], minlength=len(read.counts))
-    if not len(sizes):
-        return points, sizes, counts
-    begins, (x, y), (next_x, next_y) = offsets(sizes)[:-1], points.astype(np.int64), rolled(points, sizes)
-    is_back = (np.add.reduceat(x * next_y - next_x * y, begins) < 0) == read.is_outer[good]
-    order = np.arange(points.shape[1])
-    back = np.repeat(is_back, sizes)
-    order[back] = (np.repeat(2 * begins + sizes - 1, sizes) - order)[back]
-    return points[:, order], sizes, counts
+    x, y = at.astype(np.int64)
+    is_back = (np.add.reduceat(x * after[1] - after[0] * y, begins) < 0) == read.is_outer[full]
+    order = np.abs(np.repeat(np.where(is_back, 2 * begins + whole - 1, 0), whole) - np.arange(len(x)))
+    stays &= np.repeat(good, whole)
+    return at.take(order[stays[order]], axis=1), sizes[good], np.bincount(feature[good], minlength=len(read.counts))
 
 
 def rolled(points: Numbers, sizes: Numbers) -> Numbers:
@@ -119,7 +118,8 @@ def features(fids: Numbers, tags: Numbers | None, points: Numbers, sizes: Number
     """The features of a layer. All of it is varints: of each feature a head, and of each ring MOVE, x, y, LINE, x, y ..
     and CLOSE, where x and y are steps from the point before."""
     begins, firsts = offsets(sizes)[:-1], offsets(counts)[:-1]  # of rings among points, of features among rings
-    steps = np.diff(points, axis=1, prepend=0)
+    steps = points.copy()
+    steps[:, 1:] -= points[:, :-1]
     steps[:, begins[firsts]] = points[:, begins[firsts]]
     zigzag = (steps << 1) ^ (steps >> 31)
     middle = [] if tags is None else [TAGS, 2, 0, tags]
@@ -153,14 +153,17 @@ def lengths(values: Numbers) -> Numbers:
 
 
 def varints(values: Numbers, wide: Numbers) -> bytes:
-    """Numbers as varints of so many bytes."""
-    begins = offsets(wide)
-    out: Numbers = np.empty(int(begins[-1]), np.uint8)
-    at, part = begins[:-1], values
+    """Numbers as varints of so many bytes: a byte of each, then a second one of those that have it, and so on."""
+    at: Numbers = np.cumsum(wide, dtype=np.int64)
+    out: Numbers = np.empty(int(at[-1]), np.uint8)
+    at -= wide
+    part = values
     while len(part):
-        more = part > 127
-        out[at] = part & 127 | more << np.uint8(7)
-        at, part = at[more] + 1, part[more] >> 7
+        out[at] = part
+        more = np.flatnonzero(part > 127)
+        at, part = at[more], part[more]
+        out[at] |= np.uint8(128)
+        at, part = at + 1, part >> 7
     made: bytes = out.tobytes()
     return made
 
