@@ -10,7 +10,9 @@ MIXED = np.int64(0x9E3779B97F4A7C1)
 
 def offsets(counts: Numbers) -> Numbers:
     """Where each part begins, and where the last one ends."""
-    return np.concatenate([[0], np.cumsum(counts)]).astype(np.int64, copy=False)
+    found: Numbers = np.zeros(len(counts) + 1, np.int64)
+    found[1:] = np.cumsum(counts)
+    return found
 
 
 def owners(counts: Numbers) -> Numbers:

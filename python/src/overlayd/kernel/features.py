@@ -36,7 +36,8 @@ class Features:
 
     def boxes(self) -> Numbers:
         """Least x, least y, greatest x, greatest y of each; 1, 1, 0, 0 of one without a point."""
-        found: Numbers = np.tile(np.array([1, 1, 0, 0], np.int64), (len(self), 1))
+        found: Numbers = np.zeros((len(self), 4), np.int64)
+        found[:, :2] = 1
         full = self.points() > 0
         begins = self.ring_at[self.feature_at[:-1][full]]
         if len(begins):
