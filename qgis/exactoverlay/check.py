@@ -21,7 +21,8 @@ class Check(Exact):
 
     NAME, TITLE = "check", "Check for overlaps and gaps"
     HELP = ("Where features of one layer lie on each other, and the places that features enclose and none covers, "
-            "each with its area and how wide it is. Slivers of a grid unit are in the data; none is added." + GRID_HELP)
+            "each with its area and its width (area by perimeter). Slivers of a grid unit are in the data; none is "
+            "added." + GRID_HELP)
 
     def initAlgorithm(self, config: Any = None) -> None:
         self.add_layer(INPUT, "Layer")

@@ -23,9 +23,9 @@ class Pairs(TwoLayers):
 
     NAME, TITLE = "pairs", "Pairs that overlap or touch"
     HELP = ("A row for each pair of features that overlap, and where asked for each that only touches: the fields "
-            "of both, the area that they share and by how much it may be off, how wide that is (slivers are told "
-            "from mistakes by it), and the relation of the input's feature to the overlay's: touches, overlaps, "
-            "within, contains, equals." + GRID_HELP)
+            "of both, the area that they share and by how much it may be off, its width (area by perimeter: slivers "
+            "are told from mistakes by it), and the relation of the input's feature to the overlay's: touches, "
+            "overlaps, within, contains, equals." + GRID_HELP)
 
     def initAlgorithm(self, config: Any = None) -> None:
         self.add_layers()
